@@ -1,10 +1,10 @@
 // Probabilities: which ones are good, by comparison; their 64 bits and back; and a yes or no draw on
 // one with words that the host lends. It stands where the Rust has gen_bool of rand 0.8.
 ghost use mathlib.Core.Path.{_≡_};
-ghost use Prim.Native.Nat.{_<_};
+ghost use mathlib.Core.Bool.{false};
 ghost use lib.Dec.{T};
 ghost use lib.Ieee.{binary64, toBits, ofBits};
-ghost use Rattle.chance.specs.Probability.{goodWord, goodProbability, thresholdOf, oneWord};
+ghost use Rattle.chance.specs.Probability.{goodWord, goodProbability, isOne, thresholdOf};
 ghost use Rattle.chance.specs.Draw.{genBool, genBoolInSend};
 
 // What a draw answers, with the place of the next word: a draw that used one stands one further.
@@ -48,11 +48,11 @@ pub fn word_of(p: f64) -> u64
 // The whole part of p * 2^64, for a good p other than 1.
 fn threshold(p: f64) -> u64
     requires { ⌜ T (goodProbability p) ⌝ }
-    requires { ⌜ toBits binary64 p < oneWord ⌝ }
+    requires { ⌜ isOne p ≡ false ⌝ }
     ensures { λ r. ⌜ r ≡ thresholdOf (toBits binary64 p) ⌝ }
 {
     let bits = f64::to_bits(p);
-    let e = bits >> 52;
+    let e = (bits >> 52) & 0x7ff;
     let m = (bits & 0xf_ffff_ffff_ffff) | 0x10_0000_0000_0000;
     if e >= 1011 {
         return m << (e - 1011);
@@ -68,7 +68,16 @@ pub fn gen_bool(p: f64, draws: &[u64], place: usize) -> Draw
     requires { ⌜ T (goodProbability p) ⌝ }
     ensures { λ r. ⌜ r ≡ genBool p (now (draws .entry)) place ⌝ }
 {
-    Draw::Short
+    if p == 1.0 {
+        return Draw::Yes(place);
+    }
+    if place >= draws.len() {
+        return Draw::Short;
+    }
+    if draws[place] < threshold(p) {
+        return Draw::Yes(place + 1);
+    }
+    Draw::No(place + 1)
 }
 
 // The same where a message is sent: there 0, of either sign, answers no without a word.
@@ -76,5 +85,8 @@ pub fn gen_bool_in_send(p: f64, draws: &[u64], place: usize) -> Draw
     requires { ⌜ T (goodProbability p) ⌝ }
     ensures { λ r. ⌜ r ≡ genBoolInSend p (now (draws .entry)) place ⌝ }
 {
-    Draw::Short
+    if p == 0.0 {
+        return Draw::No(place);
+    }
+    gen_bool(p, draws, place)
 }
