@@ -3,11 +3,13 @@
 use mathlib.Core.Path.{_≡_, refl, sym, ap, _∙_, subst}
 use mathlib.Core.Logic.{_⊎_, inl, inr}
 use mathlib.Core.Bool.{Bool, true, false, not}
-use Prim.Native.Nat.{ℕ, _%_, _^_, _≤_, _<_}
+use Prim.Native.Nat.{ℕ, zero, suc, _*_, _%_, _^_, _≤_, _<_}
+use native.Mathlib.Nat.{pow-succ'}
 use native.Mathlib.Omega.{arith}
-use lib.IntN.{pos}
+use lib.IntN.{ℤ, pos, negsuc}
 use lib.Dec.{T, leb, eqb, leb→le, eqb→eq}
-use lib.Ieee.{Float, fin, binary64, fits, isNan, nanBits, ofBits, toBits}
+use lib.Pow.{pow-pos}
+use lib.Ieee.{Float, fin, binary64, up, down, fits, isNan, nanBits, ofBits, toBits}
 use lib.Ieee.Bits.{ofBits-toBits, toBits-ofBits, nanBits-is, nanBits-above}
 use lib.Ieee.Fits.{and-i, and-l, and-r}
 use mir.Facts.{or-yes}
@@ -36,6 +38,19 @@ one-float = refl
 pub negative-zero-float : ofBits binary64 negativeZeroWord ≡ negativeZeroFloat
 unfolding ofBits
 negative-zero-float = refl
+
+-- a zero is written with the exponent 0: 2 ^ e is 1 for no other e
+pub zero-exponent : (s : Bool) (e : ℤ) → T (fits binary64 (fin s 0 e)) → e ≡ pos 0
+unfolding fits
+zero-exponent s e h = only e (eqb→eq (up e * down e) 1 h)
+  where
+    even : (x y : ℕ) → x ≡ 2 * y → 0 < y → x ≡ 1 → ⊥
+    even x y e p h = omega arith
+
+    only : (e : ℤ) → up e * down e ≡ 1 → e ≡ pos 0
+    only (pos zero) h = refl
+    only (pos (suc a)) h = absurd (even (2 ^ suc a) (2 ^ a) (pow-succ' 2 a) (pow-pos a) (omega arith))
+    only (negsuc a) h = absurd (even (2 ^ suc a) (2 ^ a) (pow-succ' 2 a) (pow-pos a) (omega arith))
 
 -- ---- a good word is one of the two sorts, and no NaN's
 

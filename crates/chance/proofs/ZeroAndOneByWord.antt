@@ -1,10 +1,10 @@
 -- A p that equals 1, as IEEE compares, has 1's word, and one that equals 0 has a zero's word, of either sign; and the other way round.
 -- Assumes nothing.
 use mathlib.Core.Path.{_≡_, refl, sym, ap, _∙_, subst}
-use mathlib.Core.Logic.{_⊎_, inl, inr}
-use mathlib.Core.Bool.{Bool, true, false, false≢true}
-use Prim.Native.Nat.{ℕ, zero, suc, _*_, _/_, _^_, _<_}
-use native.Mathlib.Nat.{mul-pos, zero-lt-suc, mul-div-right}
+use mathlib.Core.Logic.{inl, inr}
+use mathlib.Core.Bool.{Bool, true, false}
+use Prim.Native.Nat.{ℕ, zero, suc, _*_, _<_}
+use native.Mathlib.Nat.{mul-pos, zero-lt-suc}
 use native.Mathlib.Omega.{arith}
 use lib.IntN.{ℤ, pos}
 use lib.Dec.{T, eqb, eqb→eq}
@@ -12,10 +12,9 @@ use lib.Ieee.{Float, nan, inf, fin, binary64, up, down, size, eq, fits, ofBits, 
 use lib.Ieee.Bits.{is-true}
 use lib.Ieee.Fits.{and-l, and-r, up-pos, down-pos, eq→eqb}
 use mir.Facts.{or-yes}
-use denote.Floats.{passes}
 use Rattle.chance.specs.Probability.{isOne, isZero, oneWord, negativeZeroWord}
-use Rattle.chance.proofs.ThereAndBack.{zeroFloat, oneFloat, zero-float, one-float, of-word}
-use Rattle.chance.proofs.GoodByComparison.{plain, wordOf, units, word-is}
+use Rattle.chance.proofs.ThereAndBack.{zeroFloat, oneFloat, zero-float, one-float, of-word, zero-exponent}
+use Rattle.chance.proofs.WordAgainstOne.{wordOfUnits, units-of-one, word-is}
 
 -- two tests that pass together are one
 same-test : (a b : Bool) → (T a → T b) → (T b → T a) → a ≡ b
@@ -27,10 +26,10 @@ not-none : (m : ℕ) (e : ℤ) → suc m * up e * 1 ≡ 0 * down e → ⊥
 not-none m e h = omega (arith, mul-pos (zero-lt-suc m) (up-pos e))
 
 zero-word : (p : Float) → T (fits binary64 p) → T (eq p zeroFloat) → T (isZero p)
-unfolding eq fits isZero toBits
+unfolding eq isZero toBits
 zero-word nan h q = absurd q
 zero-word (inf s) h q = absurd q
-zero-word (fin s zero e) h q = subst (λ (x : ℤ). T (isZero (fin s 0 x))) (sym (plain e (eqb→eq (up e * down e) 1 h))) (either-sign s)
+zero-word (fin s zero e) h q = subst (λ (x : ℤ). T (isZero (fin s 0 x))) (sym (zero-exponent s e h)) (either-sign s)
   where
     either-sign : (s : Bool) → T (isZero (fin s 0 (pos 0)))
     either-sign true = tt
@@ -51,8 +50,7 @@ one-word (fin true m e) q =
 one-word (fin false m e) q =
     let a : m * up e * 1 ≡ 1 * down e = eqb→eq (m * up e * 1) (1 * down e) (and-l (eqb (m * up e * 1) (1 * down e)) true q) in
     let b : m * up e ≡ down e = omega arith in
-    let n : units m e ≡ 2 ^ 1074 = ap (λ (x : ℕ). x * 2 ^ 1074 / down e) b ∙ mul-div-right (2 ^ 1074) (down-pos e) in
-    word-is false m e ∙ ap (wordOf false) n ∙ (unfold size in refl)
+    word-is false m e ∙ ap (wordOfUnits false) (units-of-one m e b) ∙ (unfold size in refl)
 
 same-ends : T (eq (ofBits binary64 oneWord) (ofBits binary64 oneWord)) × T (eq (ofBits binary64 negativeZeroWord) (ofBits binary64 0)) × T (eq (ofBits binary64 0) (ofBits binary64 0))
 unfolding eq ofBits

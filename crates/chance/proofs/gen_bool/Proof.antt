@@ -1,7 +1,5 @@
 -- `chance::gen_bool` meets its contract: each of its four returns is a case of the draw. Assumes nothing.
 use mathlib.Core.Path.{_≡_, sym, _∙_}
-use mathlib.Core.Bool.{false}
-use native.Mathlib.Omega.{arith}
 use borrow.Author.Needs.{needs}
 use denote.Floats.{passes}
 use denote.Ref.{now}
