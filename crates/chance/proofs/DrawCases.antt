@@ -16,10 +16,12 @@ module _ (p : Float) (draws : List ℕ) (place : ℕ) where
   unfolding genBool
   one h = rw h
 
+  -- any other p needs one: with none at the place the list is short
   pub no-word : isOne p ≡ false → length draws ≤ place → genBool p draws place ≡ Short
   unfolding genBool byWord
   no-word h s = rw (h, le-ltb place (length draws) s)
 
+  -- a word is used, and answers yes exactly if it is below the threshold
   pub word-below : isOne p ≡ false → place < length draws → getD draws place 0 < thresholdOf (toBits binary64 p) → genBool p draws place ≡ Yes (place + 1)
   unfolding genBool byWord
   word-below h l b = rw (h, lt-ltb place (length draws) l, lt-ltb (getD draws place 0) (thresholdOf (toBits binary64 p)) b)

@@ -63,6 +63,7 @@ module _ (b : ℕ) where
   unfolding thresholdOf
   threshold-is = ap (λ (k : ℕ). k * 2 ^ exponent b / 2 ^ 1011) digits-are ∙ ap (λ (k : ℕ). (2 ^ 52 + digitsOf b) * 2 ^ k / 2 ^ 1011) exponent-is
 
+  -- the three returns of the code
   pub cut-up : exponentOf b < 1023 → 1011 ≤ exponent b → digits b * 2 ^ (exponent b - 1011) % 2 ^ 64 ≡ thresholdOf b
   cut-up l h = shl-exact 53 (exponent b - 1011) 64 digits-lt (omega (arith, exponent-is)) ∙ shifted-up (digits b) (exponent b) 1011 h ∙ threshold-is
 

@@ -49,6 +49,7 @@ word-high n h =
     room z h = omega arith
 
 module _ (m : ℕ) (e : ℤ) where
+  -- m * 2 ^ e is m * up e / down e
   pub word-under : m * up e ≤ down e → wordOfUnits false (units m e) ≤ oneWord
   word-under h = elim (eq-or-lt-of-le h) [
     | inl q ↦ subst (λ (n : ℕ). wordOfUnits false n ≤ oneWord) (sym (units-of-one m e q)) (unfold size in lit≤ tt)

@@ -1,7 +1,6 @@
 -- Which probabilities use a word of the list: 1 never does; 0, of either sign, does not in a send and does elsewhere;
 -- 2 ^ -65 does in both, though no word is below its threshold. Assumes nothing.
 use mathlib.Core.Path.{_≡_, refl, sym, ap, _∙_}
-use mathlib.Core.Bool.{false}
 use mathlib.Core.List.{List}
 use Prim.Native.Nat.{ℕ, _+_, _^_, _<_, zero-le}
 use native.Mathlib.Omega.{arith}
@@ -32,10 +31,12 @@ module _ (draws : List ℕ) (place : ℕ) where
       not-one : toBits binary64 p ≡ oneWord → ⊥
       not-one q = let clash : 2 ^ 64 ≡ 0 = sym (ends .0) ∙ ap thresholdOf (sym q) ∙ z in omega arith
 
+  -- outside a send 0 is drawn on like any other
   pub zeros-use-one : place < length draws → (genBool zeroFloat draws place ≡ No (place + 1)) × (genBool negativeZeroFloat draws place ≡ No (place + 1))
   unfolding toBits
   zeros-use-one l = (none-below zeroFloat l (ends .1), none-below negativeZeroFloat l (ends .2))
 
+  -- whatever the word is
   pub two-to-minus-65-uses-one : place < length draws → (genBool twoToMinus65 draws place ≡ No (place + 1)) × (genBoolInSend twoToMinus65 draws place ≡ No (place + 1))
   unfolding isZero toBits
   two-to-minus-65-uses-one l = let used = none-below twoToMinus65 l (ap thresholdOf (words-of .3) ∙ worked .3) in (used, other-in-send twoToMinus65 draws place refl ∙ used)

@@ -25,6 +25,7 @@ same-test false false f g = refl
 not-none : (m : ℕ) (e : ℤ) → suc m * up e * 1 ≡ 0 * down e → ⊥
 not-none m e h = omega (arith, mul-pos (zero-lt-suc m) (up-pos e))
 
+-- a p that equals 0 or 1 has the word
 zero-word : (p : Float) → T (fits binary64 p) → T (eq p zeroFloat) → T (isZero p)
 unfolding eq isZero toBits
 zero-word nan h q = absurd q
@@ -52,6 +53,7 @@ one-word (fin false m e) q =
     let b : m * up e ≡ down e = omega arith in
     word-is false m e ∙ ap (wordOfUnits false) (units-of-one m e b) ∙ (unfold size in refl)
 
+-- the floats of the words equal 1 and 0
 same-ends : T (eq (ofBits binary64 oneWord) (ofBits binary64 oneWord)) × T (eq (ofBits binary64 negativeZeroWord) (ofBits binary64 0)) × T (eq (ofBits binary64 0) (ofBits binary64 0))
 unfolding eq ofBits
 same-ends = (tt, tt, tt)

@@ -45,7 +45,8 @@ pub fn word_of(p: f64) -> u64
     f64::to_bits(p)
 }
 
-// The whole part of p * 2^64, for a good p other than 1.
+// The whole part of p * 2^64, for a good p other than 1. The exponent's mask leaves out the sign, which
+// negative zero has.
 fn threshold(p: f64) -> u64
     requires { ⌜ T (goodProbability p) ⌝ }
     requires { ⌜ isOne p ≡ false ⌝ }

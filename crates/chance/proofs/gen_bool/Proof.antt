@@ -1,5 +1,6 @@
 -- `chance::gen_bool` meets its contract: each of its four returns is a case of the draw. Assumes nothing.
 use mathlib.Core.Path.{_≡_, sym, _∙_}
+use native.Mathlib.Omega.{arith}
 use borrow.Author.Needs.{needs}
 use denote.Floats.{passes}
 use denote.Ref.{now}
@@ -18,7 +19,7 @@ returns : tie.Need-returns
 returns c = let s = c .before .before in sym (one (s .args .p) (now (s .args .draws)) (s .args .place) (by-word s ∙ c .if1 .taken))
 
 returns-2 : tie.Need-returns-2
-returns-2 c = let s = c .before .before .before in sym (no-word (s .args .p) (now (s .args .draws)) (s .args .place) (by-word s ∙ c .before .if1 .left) (c .if2 .taken))
+returns-2 c = let s = c .before .before .before in sym (no-word (s .args .p) (now (s .args .draws)) (s .args .place) (by-word s ∙ c .before .if1 .left) (omega (arith, c .if2 .taken)))
 
 mul-if3 : tie.Need-mul-if3
 mul-if3 c = search needs
