@@ -1,0 +1,93 @@
+-- What a whole script says (RULES, "Fault scripts" and "Refusal numbers"), and the lent words after it was read.
+-- Over the whole text refusal 1 comes first, then 2; then the first faulty line answers. Assumes nothing.
+use mathlib.Core.Bool.{Bool, true, false, cond}
+use mathlib.Core.List.{List, [], _∷_, _++_, map}
+use Prim.Native.Nat.{ℕ, suc, _+_, _*_, _/_}
+use lib.Dec.{leb, ltb, eqb}
+use lib.ListN.{length, take, drop}
+use Rattle.order.specs.Order as order
+use Rattle.script.specs.Words.{linesOf}
+use Rattle.script.specs.Faults.{faultNumber, faultId}
+use Rattle.script.specs.Lines.{lineSays}
+use Rattle.script.specs.declared.line.Line.{Line}
+use Rattle.script.specs.declared.line.Line.the-variants.{Blank, Event, Faulty}
+use Rattle.script.specs.declared.line.Refusal.{Refusal}
+use Rattle.script.specs.declared.line.Refusal.the-variants.{TooLong, NotAscii, OneWord, BadTick, UnknownFault, MissingId, BadId, NoRoom}
+use Rattle.script.specs.declared.Judged.{Judged}
+use Rattle.script.specs.declared.Judged.the-variants.{Found, Stopped}
+use Rattle.script.specs.declared.Script.{Script}
+use Rattle.script.specs.declared.Script.the-variants.{Events, Refused}
+
+-- the refusals' numbers
+abbrev pub refusalNumber : Refusal → ℕ
+refusalNumber TooLong = 1
+refusalNumber NotAscii = 2
+refusalNumber OneWord = 3
+refusalNumber BadTick = 4
+refusalNumber UnknownFault = 5
+refusalNumber MissingId = 6
+refusalNumber BadId = 7
+refusalNumber NoRoom = 8
+
+-- the most bytes that a text may have
+abbrev pub longest : ℕ
+longest = 65536
+
+-- the line of the first byte over 127, counted from n, or 0 where there is no such byte
+unfoldable pub strayFrom : ℕ → List ℕ → ℕ
+strayFrom n [] = 0
+strayFrom n (b ∷ bs) = cond (ltb 127 b) n (cond (eqb b 10) (strayFrom (suc n) bs) (strayFrom n bs))
+
+unfoldable pub strayLine : List ℕ → ℕ
+strayLine text = strayFrom 1 text
+
+-- the event that a line is, as tick, fault and id: one or none
+abbrev pub eventsIn : Line → List order.Event
+eventsIn Blank = []
+eventsIn (Event tick fault) = record { tick = tick; fault = faultNumber fault; id = faultId fault } ∷ []
+eventsIn (Faulty r) = []
+
+-- the events among what lines say, in file order
+unfoldable pub eventsOf : List Line → List order.Event
+eventsOf [] = []
+eventsOf (l ∷ ls) = eventsIn l ++ eventsOf ls
+
+-- the answer of lines that begin at line n, with `found` events before them and room for `room` in all: the first faulty line's refusal, where
+-- an event more than the room makes its line faulty too
+unfoldable pub judged : ℕ → ℕ → ℕ → List Line → Script
+judged room n found [] = Events found
+judged room n found (Blank ∷ ls) = judged room (suc n) found ls
+judged room n found (Event tick fault ∷ ls) = cond (ltb found room) (judged room (suc n) (suc found) ls) (Refused NoRoom n)
+judged room n found (Faulty r ∷ ls) = Refused r n
+
+-- the same of one line: how many events were found up to its end, or why it stops
+abbrev pub judgedLine : ℕ → ℕ → Line → Judged
+judgedLine room found Blank = Found found
+judgedLine room found (Event tick fault) = cond (ltb found room) (Found (found + 1)) (Stopped NoRoom)
+judgedLine room found (Faulty r) = Stopped r
+
+-- what the lines of a text say, one after the other
+abbrev pub said : List ℕ → List Line
+said text = map lineSays (linesOf text)
+
+-- words laid over others from a place on: what stands before them and after them stays
+abbrev pub laid : List ℕ → ℕ → List ℕ → List ℕ
+laid words place new = take place words ++ (new ++ drop (place + length new) words)
+
+-- the answer, with `words` words lent: room counts in whole events
+unfoldable pub answerOf : List ℕ → ℕ → Script
+answerOf text words =
+    cond (ltb longest (length text)) (Refused TooLong 0)
+    (cond (eqb (strayLine text) 0) (judged (words / 3) 1 0 (said text)) (Refused NotAscii (strayLine text)))
+
+-- the script's events by tick, equal ticks in file order
+unfoldable pub sortedEvents : List ℕ → List order.Event
+sortedEvents text = order.sorted (eventsOf (said text))
+
+-- the lent words after the answer: the events, then what was there; on a refusal none has changed
+abbrev pub wordsGiven : Script → List ℕ → List ℕ → List ℕ
+wordsGiven (Events n) text words = order.wordsOf (sortedEvents text) ++ drop (3 * n) words
+wordsGiven (Refused r n) text words = words
+
+unfoldable pub wordsAfter : List ℕ → List ℕ → List ℕ
+wordsAfter text words = wordsGiven (answerOf text (length words)) text words

@@ -1,0 +1,88 @@
+// One line of a fault script.
+use crate::fault;
+use crate::fault::Fault;
+use crate::fault::Named;
+use crate::words;
+use numeral::Number;
+ghost use mathlib.Core.Path.{_≡_};
+ghost use Rattle.script.specs.Words.{wordsOf};
+ghost use Rattle.script.specs.Lines.{lineSays, ofWords, withFault, present};
+
+// Why a script is refused, in the order in which it is tested.
+pub enum Refusal {
+    // The text is over 65,536 bytes.
+    TooLong,
+    // A byte is over 127.
+    NotAscii,
+    // A line has only one word.
+    OneWord,
+    // The first word is no number.
+    BadTick,
+    // The second word names no fault.
+    UnknownFault,
+    // The fault needs an id.
+    MissingId,
+    // The id is no number.
+    BadId,
+    // There is one event more than the room lent.
+    NoRoom,
+}
+
+// What a line says.
+pub enum Line {
+    Blank,
+    Event(u64, Fault),
+    Faulty(Refusal),
+}
+
+// What a line of a script says. Its comment begins at the first `#`.
+pub fn parse_line(line: &[u8]) -> Line
+    ensures { λ r. ⌜ r ≡ lineSays (now (line .entry)) ⌝ }
+{
+    let end = words::find(line, b'#', 0);
+    parse_words(&line[..end])
+}
+
+// What the words of a line say.
+fn parse_words(line: &[u8]) -> Line
+    ensures { λ r. ⌜ r ≡ ofWords (wordsOf (now (line .entry))) ⌝ }
+{
+    let found = words::first_words(line);
+    let start = found.tick.start;
+    let end = found.tick.end;
+    let word = &line[start..end];
+    if word.len() == 0 {
+        return Line::Blank;
+    }
+    let name_start = found.name.start;
+    let name_end = found.name.end;
+    let name = &line[name_start..name_end];
+    if name.len() == 0 {
+        return Line::Faulty(Refusal::OneWord);
+    }
+    let Number::Value(tick) = numeral::read(word) else {
+        return Line::Faulty(Refusal::BadTick);
+    };
+    let Named::Is(fault) = fault::fault_of(name) else {
+        return Line::Faulty(Refusal::UnknownFault);
+    };
+    let id_start = found.id.start;
+    let id_end = found.id.end;
+    parse_id(tick, fault, &line[id_start..id_end])
+}
+
+// A fault and the word after its name, which is empty where there is none.
+fn parse_id(tick: u64, fault: Fault, word: &[u8]) -> Line
+    ensures { λ r. ⌜ r ≡ withFault tick fault (present (now (word .entry))) ⌝ }
+{
+    if !fault.needs_id() {
+        return Line::Event(tick, fault);
+    }
+    if word.len() == 0 {
+        return Line::Faulty(Refusal::MissingId);
+    }
+    let Number::Value(id) = numeral::read(word) else {
+        return Line::Faulty(Refusal::BadId);
+    };
+    Line::Event(tick, fault.with_id(id))
+}
