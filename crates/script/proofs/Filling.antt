@@ -6,9 +6,9 @@ use Prim.Native.Nat.{ℕ, _+_, _-_, _*_, _≤_, _<_}
 use native.Mathlib.Omega.{arith}
 use lib.ListN.{length, take, drop, length-take, length-drop, length-append}
 use lib.Seq.{take-at, drop-at, take-append-seam, drop-append-seam, take-add, drop-drop, length-take-le, take-all}
+use Rattle.numeral.specs.Writing.{laid}
 use Rattle.order.specs.Order.{Event, wordsOf}
 use Rattle.order.proofs.Laws.{length-wordsOf, wordsOf-append}
-use Rattle.script.specs.Scripts.{laid}
 
 -- the words after the first `count` events of a list were written over others
 abbrev pub written : List Event → List ℕ → ℕ → List ℕ

@@ -5,3 +5,4 @@ pub mod Saying
 pub mod Judging
 pub mod Filling
 pub mod Most
+pub mod Laws

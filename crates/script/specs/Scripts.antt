@@ -4,7 +4,7 @@ use mathlib.Core.Bool.{Bool, true, false, cond}
 use mathlib.Core.List.{List, [], _∷_, _++_, map}
 use Prim.Native.Nat.{ℕ, suc, _+_, _*_, _/_}
 use lib.Dec.{leb, ltb, eqb}
-use lib.ListN.{length, take, drop}
+use lib.ListN.{length, drop}
 use Rattle.order.specs.Order as order
 use Rattle.script.specs.Words.{linesOf}
 use Rattle.script.specs.Faults.{faultNumber, faultId}
@@ -69,10 +69,6 @@ judgedLine room found (Faulty r) = Stopped r
 -- what the lines of a text say, one after the other
 abbrev pub said : List ℕ → List Line
 said text = map lineSays (linesOf text)
-
--- words laid over others from a place on: what stands before them and after them stays
-abbrev pub laid : List ℕ → ℕ → List ℕ → List ℕ
-laid words place new = take place words ++ (new ++ drop (place + length new) words)
 
 -- the answer, with `words` words lent: room counts in whole events
 unfoldable pub answerOf : List ℕ → ℕ → Script

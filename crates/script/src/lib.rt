@@ -9,9 +9,10 @@ use line::Refusal;
 ghost use mathlib.Core.Path.{_≡_};
 ghost use Prim.Native.Nat.{_+_, _*_, _≤_};
 ghost use lib.ListN.{length};
+ghost use Rattle.numeral.specs.Writing.{laid};
 ghost use Rattle.order.specs.Order.{wordsOf};
 ghost use Rattle.script.specs.Lines.{lineSays};
-ghost use Rattle.script.specs.Scripts.{refusalNumber, strayLine, judged, judgedLine, said, eventsIn, eventsOf, laid, answerOf, wordsAfter};
+ghost use Rattle.script.specs.Scripts.{refusalNumber, strayLine, judged, judgedLine, said, eventsIn, eventsOf, answerOf, wordsAfter};
 
 // What a script says: how many events it has, or why it is refused and at which line.
 pub enum Script {
@@ -48,15 +49,15 @@ pub fn refusal_number(refusal: Refusal) -> u64
 fn stray_line(text: &[u8]) -> usize
     ensures { λ r. ⌜ r ≡ strayLine (now (text .entry)) ⌝ }
 {
-    let mut line: usize = 1;
+    let mut number: usize = 1;
     let mut i: usize = 0;
     while i < text.len() {
         let b = text[i];
         if 127 < b {
-            return line;
+            return number;
         }
         if b == 10 {
-            line += 1;
+            number += 1;
         }
         i += 1;
     }

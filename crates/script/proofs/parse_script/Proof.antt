@@ -7,9 +7,10 @@ use mathlib.Core.Path.{_≡_, refl, sym, ap, _∙_}
 use Prim.Native.Nat.{ℕ, _+_, _*_, _/_, _≤_, _<_}
 use lib.ListN.{length, take, drop}
 use lib.Seq.{take-at, drop-at}
+use Rattle.numeral.specs.Writing.{laid}
 use Rattle.order.specs.Order.{wordsOf, eventsIn, sorted}
 use Rattle.order.proofs.Laws.{length-wordsOf, eventsIn-wordsOf}
-use Rattle.script.specs.Scripts.{longest, strayLine, said, eventsOf, judged, laid, answerOf, sortedEvents, wordsAfter}
+use Rattle.script.specs.Scripts.{longest, strayLine, said, eventsOf, judged, answerOf, sortedEvents, wordsAfter}
 use Rattle.script.specs.declared.line.Refusal.{Refusal}
 use Rattle.script.specs.declared.line.Refusal.the-variants.{TooLong, NotAscii}
 use Rattle.script.specs.declared.Script.{Script}

@@ -6,9 +6,9 @@ use mathlib.Core.Path.{_≡_, refl, _∙_}
 use Prim.Native.Nat.{ℕ, _+_, _*_, _≤_}
 use lib.ListN.{length, take, drop, set, length-set}
 use lib.Seq.{sets-eq}
+use Rattle.numeral.specs.Writing.{laid}
 use Rattle.order.specs.Order.{wordsOf}
 use Rattle.script.specs.Faults.{faultNumber, faultId}
-use Rattle.script.specs.Scripts.{laid}
 use borrow.Author.Needs.{needs}
 use Rattle.script.proofs.put_event.Statement.{statement}
 use Rattle.script.proofs.put_event.Tie as tie

@@ -4,9 +4,10 @@ use mathlib.Core.List.{List, []}
 use mathlib.Core.Path.{_≡_, refl, sym, ap, _∙_}
 use Prim.Native.Nat.{ℕ, _+_, _*_}
 use lib.ListN.{length, take, drop, take-append-drop}
+use Rattle.numeral.specs.Writing.{laid}
 use Rattle.order.specs.Order.{wordsOf}
 use Rattle.script.specs.Lines.{lineSays}
-use Rattle.script.specs.Scripts.{eventsIn, laid}
+use Rattle.script.specs.Scripts.{eventsIn}
 use Rattle.script.specs.declared.line.Line.{Line}
 use borrow.Author.Needs.{needs}
 use Rattle.script.proofs.put_line.Statement.{statement}

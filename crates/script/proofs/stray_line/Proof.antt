@@ -36,10 +36,10 @@ module _ (text : List ℕ) (n i : ℕ) (h : i < length text) (w : Left text n i)
   same-line s e = rw (here, le-ltb 127 (getD text i 0) s, ne-eqb (getD text i 0) 10 e) at w
 
 abbrev Inv-loop : tie.InvT-loop
-Inv-loop text line₀ i₀ line i = (i ≤ length text) × (line ≤ i + 1) × Left text line i
+Inv-loop text number₀ i₀ number i = (i ≤ length text) × (number ≤ i + 1) × Left text number i
 
 abbrev μ-loop : tie.MeasureT-loop
-μ-loop text line₀ i₀ line i = length text - i
+μ-loop text number₀ i₀ number i = length text - i
 
 loop-holds : tie.Need-loop-holds Inv-loop μ-loop
 unfolding strayLine
@@ -51,10 +51,10 @@ shared-slice-read-b c = omega arith
 returns : tie.Need-returns Inv-loop μ-loop
 returns c =
     let s = c .before .before .before in
-    stray (s .before .args .text .now) (s .loop .line) (s .loop .i) (c .before .before .loop-test .taken) (s .loop .inv .2) (c .if1 .taken)
+    stray (s .before .args .text .now) (s .loop .number) (s .loop .i) (c .before .before .loop-test .taken) (s .loop .inv .2) (c .if1 .taken)
 
-add-line : tie.Need-add-line Inv-loop μ-loop
-add-line c = omega arith
+add-number : tie.Need-add-number Inv-loop μ-loop
+add-number c = omega arith
 
 add-i : tie.Need-add-i Inv-loop μ-loop
 add-i c = omega arith
@@ -69,8 +69,8 @@ loop-again c =
     let t = s .before .args .text .now in
     let h = e .before .before .loop-test .taken in
     ⊎-elim
-    (λ w. (omega arith, omega arith, rw (w .1) (next-line t (s .loop .line) (s .loop .i) h (s .loop .inv .2) (e .if1 .left) (w .0 .taken))))
-    (λ w. (omega arith, omega arith, rw (w .1) (same-line t (s .loop .line) (s .loop .i) h (s .loop .inv .2) (e .if1 .left) (w .0 .left))))
+    (λ w. (omega arith, omega arith, rw (w .1) (next-line t (s .loop .number) (s .loop .i) h (s .loop .inv .2) (e .if1 .left) (w .0 .taken))))
+    (λ w. (omega arith, omega arith, rw (w .1) (same-line t (s .loop .number) (s .loop .i) h (s .loop .inv .2) (e .if1 .left) (w .0 .left))))
     (c .if2 .came)
 
 returns-2 : tie.Need-returns-2 Inv-loop μ-loop
@@ -81,4 +81,4 @@ returns-2 c =
 
 pub stray-line-spec : {M : Type 1} → statement M
 stray-line-spec =
-    tie.close (tie.spec Inv-loop μ-loop loop-holds shared-slice-read-b returns add-line add-i loop-less loop-again returns-2)
+    tie.close (tie.spec Inv-loop μ-loop loop-holds shared-slice-read-b returns add-number add-i loop-less loop-again returns-2)

@@ -1,0 +1,4 @@
+-- Laws that belong to no one function.
+pub mod Laying
+pub mod Lengths
+pub mod Listing

@@ -1,0 +1,76 @@
+-- What a reader expects of a script's events: they are those of the file, by tick, equal ticks in file order. And the rules' own samples, by
+-- computation. Assumes nothing.
+use mathlib.Core.Bool.{Bool, true, false, cond}
+use mathlib.Core.List.{List, [], _∷_}
+use mathlib.Core.Path.{_≡_, refl}
+use Prim.Native.Nat.{ℕ, _+_, _/_, _≤_}
+use native.Mathlib.Omega.{arith}
+use lib.Dec.{ltb, eqb}
+use lib.ListN.{length}
+use Rattle.numeral.specs.Digits.{isDigit, allDigits, valueOf}
+use Rattle.numeral.specs.Reading.{unsigned, isNumber, inDigits, numberOf}
+use Rattle.order.specs.Order.{Event, wordsOf, inserted, sorted, Rising, Permuted, ofTick}
+use Rattle.order.proofs.Laws.{sorted-rising, sorted-permuted, sorted-stable, length-sorted}
+use Rattle.script.specs.Words.{isSpace, notSpace, until, cutAt, joined, linesOf, stripFront, keptBefore, stripEnd, strip, begins}
+use Rattle.script.specs.Words as words
+use Rattle.script.specs.Faults.{same, namedBy}
+use Rattle.script.specs.Lines.{ofWords, lineSays}
+use Rattle.script.specs.Scripts.{longest, strayFrom, strayLine, eventsOf, judged, said, answerOf, sortedEvents, wordsAfter}
+use Rattle.script.specs.declared.line.Refusal.{Refusal}
+use Rattle.script.specs.declared.line.Refusal.the-variants.{TooLong, NotAscii, BadTick, BadId}
+use Rattle.script.specs.declared.Script.{Script}
+use Rattle.script.specs.declared.Script.the-variants.{Events, Refused}
+use Rattle.script.proofs.Judging.{accepted}
+
+-- no event has an earlier tick than one before it
+pub events-rising : (text : List ℕ) → Rising (sortedEvents text)
+unfolding sortedEvents
+events-rising text = sorted-rising (eventsOf (said text))
+
+-- they are the events of the file, each as often as there
+pub events-permuted : (text : List ℕ) → Permuted (sortedEvents text) (eventsOf (said text))
+unfolding sortedEvents
+events-permuted text = sorted-permuted (eventsOf (said text))
+
+-- those of one tick stand as in the file
+pub events-stable : (tick : ℕ) (text : List ℕ) → ofTick tick (sortedEvents text) ≡ ofTick tick (eventsOf (said text))
+unfolding sortedEvents
+events-stable tick text = sorted-stable tick (eventsOf (said text))
+
+-- a script that is accepted has as many events as the answer says, and they fit the room lent
+past-tests : (p q : Bool) (a b j : Script) (m : ℕ) → (a ≡ Events m → ⊥) → (b ≡ Events m → ⊥) → cond p a (cond q j b) ≡ Events m → j ≡ Events m
+past-tests true q a b j m h k e = absurd (h e)
+past-tests false true a b j m h k e = e
+past-tests false false a b j m h k e = absurd (k e)
+
+no-events : {r : Refusal} {n m : ℕ} → Refused r n ≡ Events m → ⊥
+no-events e = let z : _≡_ {A = ℕ} 0 1 = cc in omega arith
+
+pub events-counted : (text : List ℕ) (words m : ℕ) → answerOf text words ≡ Events m → (m ≡ length (sortedEvents text)) × (m ≤ words / 3)
+unfolding answerOf sortedEvents
+events-counted text words m e =
+    let j = past-tests (ltb longest (length text)) (eqb (strayLine text) 0) (Refused TooLong 0) (Refused NotAscii (strayLine text)) (judged (words / 3) 1 0 (said text)) m no-events no-events e in
+    let a = accepted (words / 3) 1 0 m (said text) j in
+    (omega (arith, a .0, length-sorted (eventsOf (said text))), a .1 (omega arith))
+
+-- `20 heal-all`, `5 crash 1 # east`
+sample : List ℕ
+sample =
+    50 ∷ 48 ∷ 32 ∷ 104 ∷ 101 ∷ 97 ∷ 108 ∷ 45 ∷ 97 ∷ 108 ∷ 108 ∷ 10
+    ∷ 53 ∷ 32 ∷ 99 ∷ 114 ∷ 97 ∷ 115 ∷ 104 ∷ 32 ∷ 49 ∷ 32 ∷ 35 ∷ 32 ∷ 101 ∷ 97 ∷ 115 ∷ 116 ∷ 10 ∷ []
+
+-- `1,500 crash 1`, and `5 crash 1,500`
+comma-tick : List ℕ
+comma-tick = 49 ∷ 44 ∷ 53 ∷ 48 ∷ 48 ∷ 32 ∷ 99 ∷ 114 ∷ 97 ∷ 115 ∷ 104 ∷ 32 ∷ 49 ∷ 10 ∷ []
+
+comma-id : List ℕ
+comma-id = 53 ∷ 32 ∷ 99 ∷ 114 ∷ 97 ∷ 115 ∷ 104 ∷ 32 ∷ 49 ∷ 44 ∷ 53 ∷ 48 ∷ 48 ∷ 10 ∷ []
+
+-- the sample has two events, the crash of plant 1 at tick 5 first, and what was lent behind them stays; a comma is a bad tick or a bad id
+samples :
+    (answerOf sample 8 ≡ Events 2)
+    × (wordsAfter sample (9 ∷ 9 ∷ 9 ∷ 9 ∷ 9 ∷ 9 ∷ 9 ∷ 8 ∷ []) ≡ 5 ∷ 0 ∷ 1 ∷ 20 ∷ 5 ∷ 0 ∷ 9 ∷ 8 ∷ [])
+    × (answerOf comma-tick 6 ≡ Refused BadTick 1)
+    × (answerOf comma-id 6 ≡ Refused BadId 1)
+unfolding sample comma-tick comma-id wordsAfter sortedEvents sorted inserted wordsOf eventsOf answerOf strayLine strayFrom judged lineSays ofWords linesOf joined cutAt until strip stripEnd keptBefore stripFront isSpace notSpace begins words.wordsOf namedBy same numberOf unsigned inDigits isNumber allDigits isDigit valueOf
+samples = (refl, refl, refl, refl)
