@@ -2,3 +2,4 @@
 pub mod Laying
 pub mod Lengths
 pub mod Listing
+pub mod Within

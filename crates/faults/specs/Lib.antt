@@ -1,0 +1,2 @@
+-- The definitions that the program's contracts cite.
+pub mod Input

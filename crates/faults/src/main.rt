@@ -1,0 +1,65 @@
+// The program `faults`: a fault script on standard input, what it says on standard output. What is
+// written is the crate report's to say; here it is only read and written.
+use report::Reported;
+ghost use Prim.Native.Nat.{_≤_};
+ghost use lib.ListN.{length};
+ghost use Rattle.faults.specs.Input.{Moved, Filled};
+
+// What one read did.
+enum Got {
+    Bytes(usize),
+    End,
+    Failed,
+}
+
+// What was read in all.
+enum Input {
+    Bytes(usize),
+    Unreadable,
+}
+
+// One read to the front of buf, which a caller makes only where buf has room.
+fn read_some(fd: i32, buf: &mut [u8]) -> Got
+    ensures { λ r. ⌜ Moved r (length (now (buf .exit))) ⌝ }
+{
+    let got = libc::read(fd, buf);
+    if got < 0 {
+        return Got::Failed;
+    }
+    let n = io::count(got, buf);
+    if n == 0 {
+        return Got::End;
+    }
+    Got::Bytes(n)
+}
+
+// Reads to the end of the input, or until buf is full.
+fn read_all(fd: i32, buf: &mut [u8]) -> Input
+    ensures { λ r. ⌜ Filled r (length (now (buf .exit))) ⌝ }
+{
+    let mut done: usize = 0;
+    while done < buf.len() {
+        match read_some(fd, &mut buf[done..]) {
+            Got::Bytes(n) => done += n,
+            Got::End => return Input::Bytes(done),
+            Got::Failed => return Input::Unreadable,
+        }
+    }
+    Input::Bytes(done)
+}
+
+// One byte more than a script may have is read, so that a longer one is seen to be.
+fn main() {
+    let mut text = [0u8; 65537];
+    let Input::Bytes(length) = read_all(libc::STDIN_FILENO, &mut text) else {
+        os::fail(b"faults: standard input");
+        return;
+    };
+    let mut out = [0u8; 135196];
+    let Reported::Written(written) = report::report(&text[..length], &mut out) else {
+        return;
+    };
+    if !io::write_all(libc::STDOUT_FILENO, &out[..written]) {
+        os::fail(b"faults: standard output");
+    }
+}
