@@ -3,21 +3,23 @@
 use mathlib.Core.Bool.{Bool, true, false, cond}
 use mathlib.Core.List.{List, [], _∷_}
 use mathlib.Core.Path.{_≡_, refl}
-use Prim.Native.Nat.{ℕ, _+_, _/_, _≤_}
+use Prim.Native.Nat.{ℕ, suc, _+_, _/_, _≤_}
 use native.Mathlib.Omega.{arith}
 use lib.Dec.{ltb, eqb}
-use lib.ListN.{length}
+use lib.ListN.{length, length-map}
 use Rattle.numeral.specs.Digits.{isDigit, allDigits, valueOf}
 use Rattle.numeral.specs.Reading.{unsigned, isNumber, inDigits, numberOf}
-use Rattle.order.specs.Order.{Event, wordsOf, inserted, sorted, Rising, Permuted, ofTick}
+use Rattle.order.specs.Order.{wordsOf, inserted, sorted, Rising, Permuted, ofTick}
 use Rattle.order.proofs.Laws.{sorted-rising, sorted-permuted, sorted-stable, length-sorted}
 use Rattle.script.specs.Words.{isSpace, notSpace, until, cutAt, joined, linesOf, stripFront, keptBefore, stripEnd, strip, begins}
 use Rattle.script.specs.Words as words
 use Rattle.script.specs.Faults.{same, namedBy}
 use Rattle.script.specs.Lines.{ofWords, lineSays}
 use Rattle.script.specs.Scripts.{longest, strayFrom, strayLine, eventsOf, judged, said, answerOf, sortedEvents, wordsAfter}
+use Rattle.script.specs.declared.line.Line.{Line}
+use Rattle.script.specs.declared.line.Line.the-variants.{Blank, Event, Faulty}
 use Rattle.script.specs.declared.line.Refusal.{Refusal}
-use Rattle.script.specs.declared.line.Refusal.the-variants.{TooLong, NotAscii, BadTick, BadId}
+use Rattle.script.specs.declared.line.Refusal.the-variants.{TooLong, NotAscii, BadTick, BadId, NoRoom}
 use Rattle.script.specs.declared.Script.{Script}
 use Rattle.script.specs.declared.Script.the-variants.{Events, Refused}
 use Rattle.script.proofs.Judging.{accepted}
@@ -52,6 +54,61 @@ events-counted text words m e =
     let j = past-tests (ltb longest (length text)) (eqb (strayLine text) 0) (Refused TooLong 0) (Refused NotAscii (strayLine text)) (judged (words / 3) 1 0 (said text)) m no-events no-events e in
     let a = accepted (words / 3) 1 0 m (said text) j in
     (omega (arith, a .0, length-sorted (eventsOf (said text))), a .1 (omega arith))
+
+-- a refusal's line is one of the text's, or 0
+stray-bound : (n : ℕ) (text : List ℕ) → strayFrom n text ≤ n + length text
+unfolding strayFrom
+stray-bound n [] = omega arith
+stray-bound n (b ∷ bs) = by-byte (ltb 127 b) (eqb b 10) (stray-bound (suc n) bs) (stray-bound n bs)
+  where
+    by-byte : (p q : Bool) {x y : ℕ} → x ≤ suc n + length bs → y ≤ n + length bs → cond p n (cond q x y) ≤ n + suc (length bs)
+    by-byte true q h k = omega arith
+    by-byte false true h k = omega arith
+    by-byte false false h k = omega arith
+
+joined-long : (b : ℕ) (ls : List (List ℕ)) → length (joined b ls) ≤ suc (length ls)
+unfolding joined
+joined-long b [] = omega arith
+joined-long b (l ∷ ls) = omega arith
+
+some-line : (b : ℕ) (ls : List (List ℕ)) (n : ℕ) → length ls ≤ suc n → length (joined b ls) ≤ suc (suc n)
+some-line b ls n h = omega (arith, joined-long b ls)
+
+lines-bound : (text : List ℕ) → length (linesOf text) ≤ suc (length text)
+unfolding linesOf
+lines-bound [] = omega arith
+lines-bound (b ∷ bs) = by-byte (eqb b 10) (lines-bound bs)
+  where
+    by-byte : (p : Bool) → length (linesOf bs) ≤ suc (length bs) → length (cond p ([] ∷ linesOf bs) (joined b (linesOf bs))) ≤ suc (suc (length bs))
+    by-byte true h = omega arith
+    by-byte false h = some-line b (linesOf bs) (length bs) h
+
+the-line : {r q : Refusal} {m n : ℕ} → Refused r m ≡ Refused q n → m ≡ n
+the-line e = cc
+
+no-refusal : {A : Type 0} {r : Refusal} {m n : ℕ} → Events m ≡ Refused r n → A
+no-refusal e = let z : _≡_ {A = ℕ} 0 1 = cc in absurd (omega arith)
+
+judged-bound : (room n found : ℕ) (ls : List Line) (r : Refusal) (k : ℕ) → judged room n found ls ≡ Refused r k → k ≤ n + length ls
+unfolding judged
+judged-bound room n found [] r k e = no-refusal e
+judged-bound room n found (Blank ∷ ls) r k e = omega (arith, judged-bound room (suc n) found ls r k e)
+judged-bound room n found (Event t f ∷ ls) r k e = by-room (ltb found room) e (judged-bound room (suc n) (suc found) ls r k)
+  where
+    by-room : (b : Bool) → cond b (judged room (suc n) (suc found) ls) (Refused NoRoom n) ≡ Refused r k
+        → (judged room (suc n) (suc found) ls ≡ Refused r k → k ≤ suc n + length ls) → k ≤ n + suc (length ls)
+    by-room true q h = omega (arith, h q)
+    by-room false q h = omega (arith, the-line q)
+judged-bound room n found (Faulty q ∷ ls) r k e = omega (arith, the-line e)
+
+pub refusal-line : (text : List ℕ) (words : ℕ) (r : Refusal) (n : ℕ) → answerOf text words ≡ Refused r n → n ≤ suc (suc (length text))
+unfolding answerOf strayLine
+refusal-line text words r n e = by-test (ltb longest (length text)) (eqb (strayLine text) 0) e
+  where
+    by-test : (p q : Bool) → cond p (Refused TooLong 0) (cond q (judged (words / 3) 1 0 (said text)) (Refused NotAscii (strayLine text))) ≡ Refused r n → n ≤ suc (suc (length text))
+    by-test true q f = omega (arith, the-line f)
+    by-test false true f = omega (arith, judged-bound (words / 3) 1 0 (said text) r n f, length-map (linesOf text) lineSays, lines-bound text)
+    by-test false false f = omega (arith, the-line f, stray-bound 1 text)
 
 -- `20 heal-all`, `5 crash 1 # east`
 sample : List ℕ
