@@ -1,0 +1,11 @@
+fn main() {
+    checkout::lay_module(
+        "simulator",
+        &[
+            "simulator/lib.rs",
+            "simulator/network.rs",
+            "simulator/properties.rs",
+        ],
+        &["stand_ins/state_machine.rs", "stand_ins/workload.rs"],
+    );
+}

@@ -1,0 +1,82 @@
+//! Compares the proved reader of fault scripts with the Rust's.
+//!
+//! `scripts [--seed N] [--count N] [--plant FAULT]`: the seed of the random scripts, how many of them are
+//! compared beside the fixed ones, and a fault to plant in our side. Ends with status 0 if there is no
+//! difference and every outcome was met.
+
+use scripts::comparison::{compare, Reply, Tally};
+use scripts::inputs::cases;
+use scripts::planted::{self, planted, Plant};
+use std::env;
+use std::process::ExitCode;
+
+const USAGE: &str = "usage: scripts [--seed N] [--count N] [--plant comma|order|line|white|word]";
+
+struct Arguments {
+    seed: u64,
+    count: usize,
+    plant: Option<Plant>,
+}
+
+fn main() -> ExitCode {
+    let Some(arguments) = arguments() else {
+        eprintln!("{USAGE}");
+        return ExitCode::from(2);
+    };
+    let mut reader = planted(arguments.plant, ours);
+    let mut tally = Tally::default();
+    for case in cases(arguments.seed, arguments.count) {
+        match compare(case, &mut reader) {
+            Ok(outcome) => tally.add(outcome),
+            Err(difference) => {
+                print!(
+                    "a difference after {} scripts that agree\n{difference}",
+                    tally.total()
+                );
+                return ExitCode::FAILURE;
+            }
+        }
+    }
+    print!(
+        "seed {}: {} scripts compared\n{tally}",
+        arguments.seed,
+        tally.total()
+    );
+    if !tally.is_full() {
+        println!("an outcome was never met: the run says nothing about it");
+        return ExitCode::FAILURE;
+    }
+    println!("no difference");
+    ExitCode::SUCCESS
+}
+
+fn ours(text: &[u8], words: &mut [u64]) -> Reply {
+    match ours::parse_script(text, words) {
+        Ok(number) => Reply { refusal: 0, number },
+        Err(refusal) => Reply {
+            refusal: refusal.number,
+            number: refusal.line,
+        },
+    }
+}
+
+fn arguments() -> Option<Arguments> {
+    let mut arguments = Arguments {
+        seed: 1,
+        count: 200_000,
+        plant: None,
+    };
+    let mut words = env::args().skip(1);
+    while let Some(word) = words.next() {
+        let value = words.next()?;
+        match word.as_str() {
+            "--seed" => arguments.seed = value.parse().ok()?,
+            "--count" => arguments.count = value.parse().ok()?,
+            "--plant" => {
+                arguments.plant = Some(planted::ALL.iter().find(|(name, _)| *name == value)?.1)
+            }
+            _ => return None,
+        }
+    }
+    Some(arguments)
+}

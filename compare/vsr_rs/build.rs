@@ -1,0 +1,3 @@
+fn main() {
+    checkout::lay_module("protocol", &["lib.rs"], &[]);
+}
