@@ -1,13 +1,9 @@
 -- `faults::main` is safe and ends: what is lent to each call lies within what the call before it filled. Assumes nothing.
 use mathlib.Core.Path.{_≡_, sym, subst, _∙_}
-use mathlib.Core.List.{List}
 use Prim.Native.Nat.{ℕ, _≤_}
 use lib.ListN.{length}
 use lib.Seq.{length-take-le}
-use Rattle.report.specs.Report.{reportOf, bytesAfter}
-use Rattle.report.specs.declared.Reported.{Reported}
-use Rattle.report.specs.declared.Reported.the-variants.{Written}
-use Rattle.report.proofs.Within.{written-within}
+use Rattle.report.proofs.Within.{handed}
 use Rattle.faults.specs.Input.{Filled}
 use Rattle.faults.specs.declared.Input.{Input}
 use borrow.Author.Needs.{needs}
@@ -21,9 +17,6 @@ within c =
     subst (λ (g : Input). Filled g (length (r .last .1 .0))) (c .before .length .given .1) (r .ensures)
 
 -- the bytes to be written
-handed : (text out last : List ℕ) (n : ℕ) (r : Reported) → r ≡ reportOf text (length out) → last ≡ bytesAfter text out → r ≡ Written n → n ≤ length last
-handed text out last n r e f g = rw f (written-within text out n (sym e ∙ g))
-
 written : (c : tie.After-known-told2) → c .before .written .given .0 .0 ≤ length (c .before .before .before .before .report .last .1 .0)
 written c =
     let r = c .before .before .before .before .report in
