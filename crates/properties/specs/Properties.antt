@@ -134,10 +134,15 @@ judgedEntries c =
 unfoldable pub judged : Cluster → Answer
 judged c = andThen (commitNumbers c) (judgedEntries c)
 
--- 7, convergence, of the plant `id` against the first of the core: length, entries, commit = length, value
-unfoldable pub sameValue : ℤ → ℤ → Bool
-sameValue a b = elim (ℤ-discrete a b) [ yes e ↦ true | no e ↦ false ]
+-- two values are equal
+abbrev pub decided : {A : Type 0} → Dec A → Bool
+decided (yes e) = true
+decided (no e) = false
 
+unfoldable pub sameValue : ℤ → ℤ → Bool
+sameValue a b = decided (ℤ-discrete a b)
+
+-- 7, convergence, of the plant `id` against the first of the core: length, entries, commit = length, value
 unfoldable pub convergedWith : Cluster → List ℤ → ℕ → ℕ → Answer
 convergedWith c values reference id =
     andThen (firstFailed Convergence id 1 (eqb (length (plant c id .log)) (length (plant c reference .log)) ∷ []))

@@ -9,7 +9,7 @@ ghost use Rattle.properties.specs.Layout.{laid, plantWords, logWords, co
 ghost use Rattle.properties.specs.Below.{numbered, maxBelow};
 ghost use Rattle.properties.specs.Cluster.{clusterIn, sameEntry, entryIn, entry, wordsOf, wordsOfEntry};
 ghost use Rattle.properties.specs.Shape.{Snapshot, Tracked, Forward};
-ghost use Rattle.properties.specs.Properties.{propertyNumber, refusalNumber, commitTests, commitNumbers, committer, agrees, idOf, unseen, participants, neededCopies, holdsCopy, copiesOf, asked, overEntries, judgedEntries, judged, firstOf, atEntry, convergedWith, converged};
+ghost use Rattle.properties.specs.Properties.{propertyNumber, refusalNumber, commitTests, commitNumbers, committer, agrees, idOf, unseen, participants, neededCopies, holdsCopy, copiesOf, asked, overEntries, judgedEntries, judged, firstOf, atEntry, sameValue, convergedWith, converged};
 ghost use Rattle.properties.specs.Calls.{plantCount, plantsFit, snapshotFits, risesBelow, coreFits, lastsFit, trackerFits, freshAnswer, freshWords, rebootAnswer, rebootWords, tickAnswer, tickWords, remembered, withIds, endAnswer};
 
 // An entry is client, request, op id and op body. A log, and the tracker's canonical part, have room for 128.
@@ -648,7 +648,7 @@ fn put_plant_ids(n: usize, r: usize, last: usize, commit: usize, logs: &[u64], t
 fn append(n: usize, plants: &[u64], logs: &[u64], tracker: &mut [u64], known: usize, longest: usize)
     requires { ⌜ (3 ≤ n) × (n ≤ 15) × (length (now plants) ≡ n * plantWords) × (length (now logs) ≡ n * logWords) × (length (now tracker) ≡ trackerWords n) ⌝ }
     requires { ⌜ (known ≤ longest) × (longest ≤ 128) ⌝ }
-    ensures { λ _. ⌜ now (tracker .exit) ≡ laid (now (tracker .entry)) (canonicalAt n known) (wordsOf (numbered (longest - known) (λ k. entryIn (now (logs .entry)) (entryAt (committer (clusterIn n (now (plants .entry)) (now (logs .entry)) (now (tracker .entry))) (known + k)) (known + k))))) ⌝ }
+    ensures { λ _. ⌜ ((t : List ℕ) → now (tracker .exit) ≡ laid (now (tracker .entry)) (canonicalAt n known) (wordsOf (numbered (longest - known) (λ k. entryIn (now (logs .entry)) (entryAt (committer (clusterIn n (now (plants .entry)) (now (logs .entry)) t) (known + k)) (known + k)))))) ⌝ }
 {
     let mut i = known;
     while i < longest {
@@ -731,12 +731,19 @@ fn converged_with(
     if number(plants, id * PLANT + COMMIT) != size {
         return broken(Property::Convergence, id, 0, 3);
     }
-    let value = values[id];
-    let wanted = values[reference];
-    if value != wanted {
+    if !same_value(values[id], values[reference]) {
         return broken(Property::Convergence, id, 0, 4);
     }
     Answer::Pass
+}
+
+fn same_value(a: i64, b: i64) -> bool
+    ensures { λ s. ⌜ s ≡ sameValue a b ⌝ }
+{
+    if a == b {
+        return true;
+    }
+    false
 }
 
 // The first entry, of the first `size`, in which a plant's log is not the reference's.

@@ -1,0 +1,156 @@
+-- `properties::entries` meets its contract. The outer loop's invariant: what the plants from r on answer is what all answer; the inner one's:
+-- what the entries from i on answer is what all of the plant's newly committed ones answer. Assumes nothing.
+use borrow.Author.Needs.{needs}
+use borrow.Author.Tests.{not-true, not-false}
+use native.Mathlib.Omega.{arith}
+use native.Mathlib.Nat.{sub-zero}
+use mathlib.Core.Logic.{⊎-elim}
+use mathlib.Core.Path.{_≡_, sym, ap, _∙_}
+use Prim.Native.Nat.{ℕ, _-_, _≤_}
+use Rattle.properties.specs.Cluster.{Cluster, clusterIn}
+use Rattle.properties.specs.Properties.{firstOf, atEntry, overCommitted, asked, overEntries}
+use Rattle.properties.specs.declared.Answer.{Answer}
+use Rattle.properties.specs.declared.Answer.the-variants.{Broken}
+use Rattle.properties.specs.declared.Property.{Property}
+use Rattle.properties.proofs.First.{broken-no-pass, first-on, first-stop, first-end}
+use Rattle.properties.proofs.Held.{commit-held, last-held}
+use Rattle.properties.proofs.entries.Statement.{statement}
+use Rattle.properties.proofs.entries.Tie as tie
+
+-- an entry's answer, and a plant's
+abbrev at : Property → Cluster → ℕ → ℕ → Answer
+at property c r i = atEntry property r i 1 (asked property c r i)
+
+abbrev of-plant : Property → Cluster → ℕ → Answer
+of-plant property c r = overCommitted c r (at property c r)
+
+abbrev Inv-indexes : tie.InvT-indexes
+Inv-indexes property needed n plants logs tracker r i₀ commit i = (i ≤ commit) × (of-plant property (clusterIn n plants logs tracker) r ≡ firstOf (at property (clusterIn n plants logs tracker) r) i (commit - i))
+
+abbrev μ-indexes : tie.MeasureT-indexes
+μ-indexes property needed n plants logs tracker r i₀ commit i = commit - i
+
+abbrev Inv-plants : tie.InvT-plants
+Inv-plants property needed n plants logs tracker r₀ i₀ r i = (r ≤ n) × (overEntries property (clusterIn n plants logs tracker) ≡ firstOf (of-plant property (clusterIn n plants logs tracker)) r (n - r))
+
+abbrev μ-plants : tie.MeasureT-plants
+μ-plants property needed n plants logs tracker r₀ i₀ r i = n - r
+
+plants-holds : tie.Need-plants-holds Inv-indexes μ-indexes Inv-plants μ-plants
+unfolding overEntries
+plants-holds c = (omega arith, rw sub-zero)
+
+mul-number : tie.Need-mul-number Inv-indexes μ-indexes Inv-plants μ-plants
+mul-number c = omega (arith, c .before .before .before .before .before .pre .0 .0 .few)
+
+add-number : tie.Need-add-number Inv-indexes μ-indexes Inv-plants μ-plants
+add-number c = omega (arith, c .before .before .before .before .before .pre .0 .0 .few)
+
+number-requires : tie.Need-number-requires Inv-indexes μ-indexes Inv-plants μ-plants
+number-requires c κs = omega (arith, c .before .before .before .before .before .pre .0 .0 .plants)
+
+add-number-2 : tie.Need-add-number-2 Inv-indexes μ-indexes Inv-plants μ-plants
+add-number-2 c = omega (arith, c .before .before .before .before .before .before .pre .0 .0 .few)
+
+number-requires-2 : tie.Need-number-requires-2 Inv-indexes μ-indexes Inv-plants μ-plants
+number-requires-2 c κs = omega (arith, c .before .before .before .before .before .before .pre .0 .1 .words)
+
+indexes-holds : tie.Need-indexes-holds Inv-indexes μ-indexes Inv-plants μ-plants
+indexes-holds c =
+    let a = c .before .before .before .before .before .before .before .args in
+    let h = c .before .before .plants-test .taken in
+    let r = c .before .before .before .plants .r in (
+      omega (arith, c .before .number .ensures, c .number2 .ensures, c .before .before .before .before .before .before .before .pre .0 .2 .onward r h),
+      rw (last-held (a .n) (a .plants .now) (a .logs .now) (a .tracker .now) r h, commit-held (a .n) (a .plants .now) (a .logs .now) (a .tracker .now) r h, c .before .number .ensures, c .number2 .ensures),
+    )
+
+entry-holds-requires : tie.Need-entry-holds-requires Inv-indexes μ-indexes Inv-plants μ-plants
+entry-holds-requires c κs =
+    (c .before .before .before .before .before .before .before .before .before .pre .0, (c .before .before .before .before .before .before .before .before .before .pre .1, (c .before .before .before .before .plants-test .taken, omega (arith, c .before .before .before .number .ensures, c .indexes-test .taken))))
+
+add-i : tie.Need-add-i Inv-indexes μ-indexes Inv-plants μ-plants
+add-i c =
+    omega (arith, c .before .before .before .before .before .number .ensures, c .before .before .indexes-test .taken, c .before .before .before .before .before .before .before .before .before .before .before .pre .0 .2 .within (c .before .before .before .before .before .before .before .plants .r) (c .before .before .before .before .before .before .plants-test .taken), c .before .before .before .before .before .before .before .before .before .before .before .pre .0 .0 .sizes (c .before .before .before .before .before .before .before .plants .r) (c .before .before .before .before .before .before .plants-test .taken))
+
+indexes-less : tie.Need-indexes-less Inv-indexes μ-indexes Inv-plants μ-plants
+indexes-less c = omega (arith, c .before .before .indexes-test .taken)
+
+indexes-again : tie.Need-indexes-again Inv-indexes μ-indexes Inv-plants μ-plants
+indexes-again c =
+    let a = c .before .before .before .before .before .before .before .before .before .before .before .args in
+    let k = clusterIn (a .n) (a .plants .now) (a .logs .now) (a .tracker .now) in (
+      omega (arith, c .before .before .indexes-test .taken),
+      c .before .before .before .indexes .inv .1
+          ∙ first-on (at (a .property) k (c .before .before .before .before .before .before .before .plants .r)) (c .before .before .before .indexes .i) (c .before .before .before .before .before .number .result) (c .before .before .indexes-test .taken)
+          (rw (sym (c .before .entry-holds .ensures) ∙ not-false _ (c .if1 .left))),
+    )
+
+add-r : tie.Need-add-r Inv-indexes μ-indexes Inv-plants μ-plants
+add-r c =
+    omega (arith, c .before .before .before .before .before .before .before .before .before .pre .0 .0 .few, c .before .before .before .before .plants-test .taken)
+
+plants-less : tie.Need-plants-less Inv-indexes μ-indexes Inv-plants μ-plants
+plants-less c = omega (arith, c .before .before .before .before .plants-test .taken)
+
+plants-again : tie.Need-plants-again Inv-indexes μ-indexes Inv-plants μ-plants
+plants-again c =
+    let a = c .before .before .before .before .before .before .before .before .before .args in
+    let k = clusterIn (a .n) (a .plants .now) (a .logs .now) (a .tracker .now) in (
+      omega (arith, c .before .before .before .before .plants-test .taken),
+      c .before .before .before .before .before .plants .inv .1
+          ∙ first-on (of-plant (a .property) k) (c .before .before .before .before .before .plants .r) (a .n) (c .before .before .before .before .plants-test .taken)
+          (c .before .indexes .inv .1 ∙ first-end (at (a .property) k (c .before .before .before .before .before .plants .r)) (c .before .indexes .i) (c .before .before .before .number .result) (c .indexes-test .left)),
+    )
+
+broken-requires : tie.Need-broken-requires Inv-indexes μ-indexes Inv-plants μ-plants
+broken-requires c κs = search needs
+
+returns : tie.Need-returns Inv-indexes μ-indexes Inv-plants μ-plants
+returns c =
+    let a = c .before .before .before .before .before .before .before .args in
+    let k = clusterIn (a .n) (a .plants .now) (a .logs .now) (a .tracker .now) in
+    let r = c .before .before .before .plants .r in
+    ⊎-elim
+    (λ w. absurd (omega (arith, w .0 .left, c .before .if2 .taken)))
+    (λ w.
+    c .broken .ensures
+    ∙ (ap (λ (x : ℕ). Broken (a .property) r x 1) (w .7)
+    ∙ sym
+    (c .before .before .before .plants .inv .1
+    ∙ first-stop (of-plant (a .property) k) r (a .n) (Broken (a .property) r (w .3 .i) 1) (c .before .if2 .taken)
+    (w .3 .inv .1
+    ∙ first-stop (at (a .property) k r) (w .3 .i) (w .1 .result) (Broken (a .property) r (w .3 .i) 1) (w .4 .taken) (rw (sym (w .5 .ensures) ∙ not-true _ (w .6 .taken)))
+    (broken-no-pass (a .property) r (w .3 .i) 1))
+    (broken-no-pass (a .property) r (w .3 .i) 1))))
+    (c .before .before .plants-test .came)
+
+returns-2 : tie.Need-returns-2 Inv-indexes μ-indexes Inv-plants μ-plants
+returns-2 c =
+    let a = c .before .before .before .before .before .before .args in
+    sym (c .before .before .plants .inv .1 ∙ first-end (of-plant (a .property) (clusterIn (a .n) (a .plants .now) (a .logs .now) (a .tracker .now))) (c .before .before .plants .r) (a .n) (c .if2 .left))
+
+pub entries-spec : {M : Type 1} → statement M
+entries-spec =
+    tie.close
+    (tie.spec
+    Inv-indexes
+    μ-indexes
+    Inv-plants
+    μ-plants
+    plants-holds
+    mul-number
+    add-number
+    number-requires
+    add-number-2
+    number-requires-2
+    indexes-holds
+    entry-holds-requires
+    add-i
+    indexes-less
+    indexes-again
+    add-r
+    plants-less
+    plants-again
+    broken-requires
+    returns
+    returns-2)
