@@ -1,8 +1,2 @@
--- The laws that the proofs of the functions share.
-mod Below
-mod First
-mod Laid
-mod Held
-mod Known
-mod Reached
-mod Written
+-- Laws that belong to no one function.
+pub mod Passed

@@ -1,7 +1,3 @@
 -- The definitions that the crate's contracts cite.
-pub mod Layout
-pub mod Below
-pub mod Cluster
-pub mod Shape
-pub mod Properties
+pub mod Ticks
 pub mod Calls

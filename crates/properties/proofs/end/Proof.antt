@@ -7,13 +7,15 @@ use mathlib.Core.Path.{_≡_, sym, _∙_}
 use Prim.Native.Nat.{ℕ}
 use lib.IntN.{ℤ}
 use lib.ListN.{length}
-use Rattle.properties.specs.Cluster.{clusterIn}
-use Rattle.properties.specs.Properties.{converged}
-use Rattle.properties.specs.Calls.{plantCount, snapshotFits, coreFits, trackerFits, endAnswer}
-use Rattle.properties.specs.declared.Answer.the-variants.{Refused}
-use Rattle.properties.specs.declared.Refusal.the-variants.{PlantCount, BadSnapshot, BadTracker}
-use Rattle.properties.proofs.Known.{count-known, snapshot-known, core-known}
-use borrow.Author.Needs.{needs}
+use Rattle.snapshots.specs.Cluster.{clusterIn}
+use Rattle.snapshots.specs.Fits.{plantCount, snapshotFits, trackerFits}
+use Rattle.snapshots.proofs.Known.{count-known, snapshot-known}
+use Rattle.convergence.specs.Convergence.{converged}
+use Rattle.convergence.specs.Core.{coreFits}
+use Rattle.convergence.proofs.Core.{core-known}
+use Rattle.properties.specs.Calls.{endAnswer}
+use Rattle.verdicts.specs.declared.Answer.the-variants.{Refused}
+use Rattle.verdicts.specs.declared.Refusal.the-variants.{PlantCount, BadSnapshot, BadTracker}
 use Rattle.properties.proofs.end.Statement.{statement}
 use Rattle.properties.proofs.end.Tie as tie
 

@@ -7,12 +7,12 @@ use mathlib.Core.List.{List}
 use mathlib.Core.Path.{_≡_, sym, ap, _∙_}
 use Prim.Native.Nat.{ℕ, suc, _-_}
 use lib.ListN.{length, set, replicate}
-use Rattle.properties.specs.Layout.{trackerWords}
-use Rattle.properties.specs.Calls.{plantCount, freshAnswer, freshWords}
-use Rattle.properties.specs.declared.Answer.the-variants.{Pass, Refused}
-use Rattle.properties.specs.declared.Refusal.the-variants.{PlantCount, BadTracker}
-use Rattle.properties.proofs.Known.{count-known}
-use borrow.Author.Needs.{needs}
+use Rattle.snapshots.specs.Fits.{plantCount}
+use Rattle.snapshots.specs.Layout.{trackerWords}
+use Rattle.snapshots.proofs.Known.{count-known}
+use Rattle.properties.specs.Calls.{freshAnswer, freshWords}
+use Rattle.verdicts.specs.declared.Answer.the-variants.{Pass, Refused}
+use Rattle.verdicts.specs.declared.Refusal.the-variants.{PlantCount, BadTracker}
 use Rattle.properties.proofs.fresh.Statement.{statement}
 use Rattle.properties.proofs.fresh.Tie as tie
 

@@ -1,11 +1,11 @@
 -- `properties::judge` meets its contract: the first answer that is no pass. Assumes nothing.
 use borrow.Author.Needs.{needs}
 use mathlib.Core.Path.{sym, _∙_}
-use Rattle.properties.specs.Cluster.{clusterIn}
-use Rattle.properties.specs.Properties.{commitNumbers, judgedEntries, judged}
-use Rattle.properties.proofs.First.{no-pass, then-stop}
-use Rattle.properties.proofs.Known.{forward-known}
-use borrow.Author.Needs.{needs}
+use Rattle.snapshots.specs.Cluster.{clusterIn}
+use Rattle.verdicts.proofs.First.{no-pass, then-stop}
+use Rattle.commits.specs.Commits.{commitNumbers}
+use Rattle.commits.proofs.Forwards.{forward-known}
+use Rattle.properties.specs.Ticks.{judgedEntries, judged}
 use Rattle.properties.proofs.judge.Statement.{statement}
 use Rattle.properties.proofs.judge.Tie as tie
 

@@ -7,12 +7,12 @@ use mathlib.Core.List.{List}
 use mathlib.Core.Path.{_≡_, sym, _∙_}
 use Prim.Native.Nat.{ℕ, _≤_, _<_}
 use lib.ListN.{set}
-use Rattle.properties.specs.Layout.{lastAt}
-use Rattle.properties.specs.Calls.{plantCount, trackerFits, rebootAnswer, rebootWords}
-use Rattle.properties.specs.declared.Answer.the-variants.{Pass, Refused}
-use Rattle.properties.specs.declared.Refusal.the-variants.{PlantCount, NoSuchPlant, BadTracker}
-use Rattle.properties.proofs.Known.{count-known, tracker-known}
-use borrow.Author.Needs.{needs}
+use Rattle.snapshots.specs.Fits.{plantCount, trackerFits}
+use Rattle.snapshots.specs.Layout.{lastAt}
+use Rattle.snapshots.proofs.Known.{count-known, tracker-known}
+use Rattle.properties.specs.Calls.{rebootAnswer, rebootWords}
+use Rattle.verdicts.specs.declared.Answer.the-variants.{Pass, Refused}
+use Rattle.verdicts.specs.declared.Refusal.the-variants.{PlantCount, NoSuchPlant, BadTracker}
 use Rattle.properties.proofs.reboot.Statement.{statement}
 use Rattle.properties.proofs.reboot.Tie as tie
 

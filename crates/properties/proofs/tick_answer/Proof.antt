@@ -5,13 +5,13 @@ use mathlib.Core.Bool.{true, false}
 use mathlib.Core.List.{List}
 use mathlib.Core.Path.{_≡_, sym, _∙_}
 use Prim.Native.Nat.{ℕ}
-use Rattle.properties.specs.Cluster.{clusterIn}
-use Rattle.properties.specs.Properties.{judged}
-use Rattle.properties.specs.Calls.{plantCount, snapshotFits, trackerFits, tickRefusal, tickAnswer}
-use Rattle.properties.specs.declared.Answer.the-variants.{Refused}
-use Rattle.properties.specs.declared.Refusal.the-variants.{PlantCount, BadSnapshot, BadTracker}
-use Rattle.properties.proofs.Known.{count-known, snapshot-known, tracker-known}
-use borrow.Author.Needs.{needs}
+use Rattle.snapshots.specs.Cluster.{clusterIn}
+use Rattle.snapshots.specs.Fits.{plantCount, snapshotFits, trackerFits}
+use Rattle.snapshots.proofs.Known.{count-known, snapshot-known, tracker-known}
+use Rattle.properties.specs.Calls.{tickRefusal, tickAnswer}
+use Rattle.properties.specs.Ticks.{judged}
+use Rattle.verdicts.specs.declared.Answer.the-variants.{Refused}
+use Rattle.verdicts.specs.declared.Refusal.the-variants.{PlantCount, BadSnapshot, BadTracker}
 use Rattle.properties.proofs.tick_answer.Statement.{statement}
 use Rattle.properties.proofs.tick_answer.Tie as tie
 

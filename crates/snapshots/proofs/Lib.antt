@@ -1,0 +1,5 @@
+-- Laws that belong to no one function.
+pub mod Below
+pub mod Held
+pub mod Laid
+pub mod Known
