@@ -47,11 +47,12 @@ unfoldable pub tickWords : ℕ → List ℕ → List ℕ → List ℕ → List �
 tickWords n p l t = onPass (tickAnswer n p l t) (remembered (clusterIn n p l t) t) t
 
 -- an end call: property 7 alone
-unfoldable pub endAnswer : ℕ → List ℕ → List ℕ → List ℤ → List ℕ → List ℕ → Answer
-endAnswer n p l values core t =
-    andThen
-    (andThen (unless PlantCount (plantCount n))
+unfoldable pub endRefusal : ℕ → List ℕ → List ℕ → List ℤ → List ℕ → List ℕ → Answer
+endRefusal n p l values core t =
+    andThen (unless PlantCount (plantCount n))
     (andThen
     (unless BadSnapshot (snapshotFits n p l && eqb (length values) n && coreFits n core))
-    (unless BadTracker (trackerFits n t))))
-    (converged (clusterIn n p l t) values core)
+    (unless BadTracker (trackerFits n t)))
+
+unfoldable pub endAnswer : ℕ → List ℕ → List ℕ → List ℤ → List ℕ → List ℕ → Answer
+endAnswer n p l values core t = andThen (endRefusal n p l values core t) (converged (clusterIn n p l t) values core)

@@ -8,7 +8,7 @@ use Prim.Native.Nat.{ℕ, zero, suc, _+_, _-_, _*_, _≤_, _<_}
 use lib.ListN.{length, getD, length-append}
 use Rattle.snapshots.specs.Below.{numbered, maxBelow}
 use Rattle.snapshots.specs.Cluster.{Entry, wordsOfEntry, wordsOf, plant, entry, last, entryIn, clusterIn}
-use Rattle.snapshots.specs.Layout.{entryWords, commitAt, entryAt, lastAt, seenAt}
+use Rattle.snapshots.specs.Layout.{entryWords, logWords, commitAt, entryAt, lastAt, seenAt}
 use Rattle.snapshots.specs.Shape.{Snapshot, Tracked, Forward}
 use Rattle.snapshots.proofs.Below.{length-numbered, numbered-same, max-same, max-reached}
 use Rattle.snapshots.proofs.Held.{canonical-long, commit-held, entry-held, last-held}
@@ -40,10 +40,10 @@ module _ (n : ℕ) (p l t : List ℕ) (s : Snapshot n p l) (k : Tracked n t) (f 
       (numbered-same (getD p (commitAt r) 0 - getD t (lastAt r) 0) (λ j. entry c r (getD t (lastAt r) 0 + j) .id) (λ j. getD l (entryAt r (getD t (lastAt r) 0 + j) + 2) 0)
       (λ j g. ap (λ (e : Entry). e .id) (entry-held n p l t r h (getD t (lastAt r) 0 + j) (omega (arith, f .within r h)))))
 
-  -- the ids lie in the last part
+  -- the ids lie in the last part: the words before it stay
   pub ids-kept : (r : ℕ) → r ≤ n
       → (length (withIds (clusterIn n p l t) r t) ≡ length t)
-      × ((j : ℕ) → j < 2 + n → getD (withIds (clusterIn n p l t) r t) j 0 ≡ getD t j 0)
+      × ((j : ℕ) → j < 2 + n + logWords → getD (withIds (clusterIn n p l t) r t) j 0 ≡ getD t j 0)
   unfolding withIds
   ids-kept zero h = (refl, λ j g. refl)
   ids-kept (suc r) h =

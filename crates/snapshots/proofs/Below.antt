@@ -58,6 +58,11 @@ all-true (suc n) h e k l =
     let b = both (allBelow n h) (h n) e in
     elim (decLt k n) [ yes g ↦ all-true n h (b .0) k g | no g ↦ let z : k ≡ n = omega arith in ap h z ∙ b .1 ]
 
+pub all-of : (n : ℕ) (h : ℕ → Bool) → ((k : ℕ) → k < n → h k ≡ true) → allBelow n h ≡ true
+unfolding allBelow
+all-of zero h a = refl
+all-of (suc n) h a = rw (all-of n h (λ k l. a k (omega arith)), a n (omega arith))
+
 pub all-false : (n : ℕ) (h : ℕ → Bool) (k : ℕ) → k < n → h k ≡ false → allBelow n h ≡ false
 unfolding allBelow
 all-false zero h k l e = absurd (omega arith)
@@ -111,6 +116,12 @@ pub max-bound : (n : ℕ) (f : ℕ → ℕ) (z b : ℕ) → z ≤ b → ((k : �
 unfolding maxBelow
 max-bound zero f z b l h = l
 max-bound (suc n) f z b l h = omega (arith, max-bound n f z b l (λ k g. h k (omega arith)), h n (omega arith))
+
+pub max-reaches : (n : ℕ) (f : ℕ → ℕ) (z k : ℕ) → k < n → f k ≤ maxBelow n f z
+unfolding maxBelow
+max-reaches zero f z k h = absurd (omega arith)
+max-reaches (suc n) f z k h =
+    elim (decLt k n) [ yes g ↦ omega (arith, max-reaches n f z k g) | no g ↦ let e : k ≡ n = omega arith in omega (arith, ap f e) ]
 
 -- what is below the greatest and not below z is below one of the others
 pub max-reached : (n : ℕ) (f : ℕ → ℕ) (z i : ℕ) → z ≤ i → i < maxBelow n f z → (k : ℕ) × (k < n) × (i < f k)

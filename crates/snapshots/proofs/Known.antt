@@ -1,5 +1,5 @@
 -- What the tests of 40, 60 and 61 leave known of the words. Assumes nothing.
-use borrow.Author.Tests.{leb-true, eqb-true}
+use borrow.Author.Tests.{leb-true, eqb-true, le-leb, eq-eqb}
 use mathlib.Core.Bool.{Bool, true, _&&_}
 use mathlib.Core.List.{List}
 use mathlib.Core.Path.{_≡_}
@@ -9,7 +9,7 @@ use lib.ListN.{length, getD}
 use Rattle.snapshots.specs.Fits.{plantCount, plantsFit, snapshotFits, lastsFit, trackerFits}
 use Rattle.snapshots.specs.Layout.{logEntries, logWords, plantWords, recoveringAt, sizeAt, lastAt, trackerWords}
 use Rattle.snapshots.specs.Shape.{Snapshot, Tracked}
-use Rattle.snapshots.proofs.Below.{both, all-true}
+use Rattle.snapshots.proofs.Below.{both, all-true, all-of}
 
 pub count-known : (n : ℕ) → plantCount n ≡ true → (3 ≤ n) × (n ≤ 15)
 unfolding plantCount
@@ -39,6 +39,14 @@ tracker-known n t e =
     let f = both (eqb (length t) (trackerWords n)) (eqb (getD t 0 0) n) (d .0) in
     record {
       words = eqb-true (length t) (trackerWords n) (f .0);
+      count = eqb-true (getD t 0 0) n (f .1);
       canonical = leb-true (getD t 1 0) logEntries (d .1);
       lasts = λ r h. leb-true (getD t (lastAt r) 0) (getD t 1 0) (all-true n (λ r. leb (getD t (lastAt r) 0) (getD t 1 0)) (b .1) r h);
     }
+
+-- and the other way round
+pub tracker-fits : (n : ℕ) (t : List ℕ) → Tracked n t → trackerFits n t ≡ true
+unfolding trackerFits lastsFit
+tracker-fits n t k =
+    rw (eq-eqb (length t) (trackerWords n) (k .words), eq-eqb (getD t 0 0) n (k .count), le-leb (getD t 1 0) logEntries (k .canonical))
+    (all-of n (λ r. leb (getD t (lastAt r) 0) (getD t 1 0)) (λ r h. le-leb (getD t (lastAt r) 0) (getD t 1 0) (k .lasts r h)))

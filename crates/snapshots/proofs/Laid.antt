@@ -1,11 +1,12 @@
 -- Laws of words laid over a list. Assumes nothing.
 use native.Mathlib.Omega.{arith}
+use native.Mathlib.Numerals.{add-one}
 use native.Mathlib.Nat.{add-zero}
 use mathlib.Core.List.{List, [], _∷_, _++_, append-assoc}
-use mathlib.Core.Path.{_≡_, sym, ap, _∙_}
-use Prim.Native.Nat.{ℕ, suc, _+_, _≤_, _<_}
+use mathlib.Core.Path.{_≡_, refl, sym, ap, _∙_}
+use Prim.Native.Nat.{ℕ, zero, suc, _+_, _-_, _≤_, _<_}
 use lib.ListN.{length, getD, set, take, drop, length-append, length-take, length-drop, take-append-drop, List·getD-append}
-use lib.Seq.{set-split, length-take-le, drop-drop, take-at, drop-append-add, getD-take}
+use lib.Seq.{set-split, length-take-le, drop-drop, take-at, drop-append-add, getD-take, getD-drop, getD-append-add, set-getD}
 use Rattle.snapshots.specs.Below.{numbered}
 use Rattle.snapshots.specs.Layout.{laid}
 use Rattle.snapshots.proofs.Below.{length-numbered, numbered-more, numbered-none}
@@ -62,3 +63,36 @@ laid-numbered w a f m b v e h g =
 
 pub laid-start : (w : List ℕ) (a : ℕ) (f : ℕ → ℕ) (m : ℕ) → m ≡ 0 → w ≡ laid w a (numbered m f)
 laid-start w a f m e = rw (e, numbered-none f) (sym (laid-none w a))
+
+-- the first word by itself
+pub laid-first : (w : List ℕ) (a x : ℕ) (vs : List ℕ) → a < length w → laid (set w a x) (a + 1) vs ≡ laid w a (x ∷ vs)
+laid-first w a x vs h =
+    ap (λ (u : List ℕ). laid u (a + 1) vs) (laid-set w a x h) ∙ laid-on w a (x ∷ []) vs (a + 1) (omega arith) refl
+
+-- the words that stand there already
+pub laid-same : (w : List ℕ) (a m : ℕ) → a + m ≤ length w → laid w a (numbered m (λ k. getD w (a + k) 0)) ≡ w
+laid-same w a zero h = sym (laid-start w a (λ k. getD w (a + k) 0) zero refl)
+laid-same w a (suc m) h =
+    let f : ℕ → ℕ = λ k. getD w (a + k) 0 in
+    ap (λ (k : ℕ). laid w a (numbered k f)) (sym (add-one m))
+    ∙ (sym (laid-numbered w a f m (a + m) (f m) refl (omega arith) refl)
+    ∙ (ap (λ (x : List ℕ). set x (a + m) (f m)) (laid-same w a m (omega arith)) ∙ set-getD w (a + m) 0))
+
+-- a word behind what is laid
+pub laid-above : (w : List ℕ) (a : ℕ) (vs : List ℕ) (k : ℕ) → a + length vs ≤ k → a + length vs ≤ length w → getD (laid w a vs) k 0 ≡ getD w k 0
+laid-above w a vs k h l =
+    let front = take a w ++ vs in
+    let long : length (take a w ++ vs) ≡ a + length vs = length-append (take a w) vs ∙ ap (λ (j : ℕ). j + length vs) (length-take-le a w (omega arith)) in
+    let y : k ≡ length (take a w ++ vs) + (k - (a + length vs)) = omega arith in
+    let z : a + length vs + (k - (a + length vs)) ≡ k = omega arith in
+    ap (λ (x : List ℕ). getD x k 0) (sym (append-assoc (take a w) vs (drop (a + length vs) w)))
+    ∙ (ap (λ (j : ℕ). getD (front ++ drop (a + length vs) w) j 0) y
+    ∙ (getD-append-add front (drop (a + length vs) w) (k - (a + length vs)) 0
+    ∙ (getD-drop (a + length vs) w (k - (a + length vs)) 0 ∙ ap (λ (j : ℕ). getD w j 0) z)))
+
+-- a word of what is laid
+pub laid-within : (w : List ℕ) (a : ℕ) (vs : List ℕ) (k : ℕ) → k < length vs → a ≤ length w → getD (laid w a vs) (a + k) 0 ≡ getD vs k 0
+laid-within w a vs k h l =
+    let y : a + k ≡ length (take a w) + k = omega (arith, length-take-le a w l) in
+    ap (λ (j : ℕ). getD (laid w a vs) j 0) y
+    ∙ (getD-append-add (take a w) (vs ++ drop (a + length vs) w) k 0 ∙ List·getD-append vs (drop (a + length vs) w) 0 k h)

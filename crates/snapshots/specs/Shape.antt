@@ -17,6 +17,7 @@ pub record Snapshot (n : ℕ) (p l : List ℕ) : Type 0 where
 -- a tracker of n plants, none of which was verified past the canonical entries
 pub record Tracked (n : ℕ) (t : List ℕ) : Type 0 where
   pub words : length t ≡ trackerWords n
+  pub count : getD t 0 0 ≡ n
   pub canonical : getD t 1 0 ≤ logEntries
   pub lasts : (r : ℕ) → r < n → getD t (lastAt r) 0 ≤ getD t 1 0
 

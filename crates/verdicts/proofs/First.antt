@@ -9,7 +9,7 @@ use mathlib.Core.List.{[], _∷_}
 use mathlib.Core.Logic.{⊎-elim}
 use mathlib.Core.Path.{_≡_, refl, ap, _∙_}
 use Prim.Native.Nat.{ℕ, zero, suc, _+_, _-_, _≤_, _<_}
-use Rattle.verdicts.specs.Verdicts.{andThen, firstOf, unless}
+use Rattle.verdicts.specs.Verdicts.{andThen, firstOf, atEntry, unless}
 use Rattle.verdicts.specs.declared.Answer.{Answer}
 use Rattle.verdicts.specs.declared.Answer.the-variants.{Pass, Broken, Refused}
 use Rattle.verdicts.specs.declared.Property.{Property}
@@ -34,6 +34,11 @@ pub then-pass : (a b : Answer) → andThen a b ≡ Pass → (a ≡ Pass) × (b �
 then-pass Pass b e = (refl, e)
 then-pass (Broken p r i t) b e = absurd (broken-no-pass p r i t e)
 then-pass (Refused x) b e = absurd (refused-no-pass x e)
+
+-- an entry's test that passes
+pub test-holds : (p : Property) (r i t : ℕ) (b : Bool) → atEntry p r i t b ≡ Pass → b ≡ true
+test-holds p r i t true e = refl
+test-holds p r i t false e = absurd (broken-no-pass p r i t e)
 
 -- an answer that is no pass is the answer
 pub then-stop : (a b : Answer) → (a ≡ Pass → ⊥) → andThen a b ≡ a

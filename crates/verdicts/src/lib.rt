@@ -1,6 +1,5 @@
 // What a call about the properties answers: a pass, the first broken place, or why it was refused.
 ghost use mathlib.Core.Path.{_≡_};
-ghost use Rattle.snapshots.specs.Cluster.{plant};
 ghost use Rattle.verdicts.specs.Verdicts.{propertyNumber, refusalNumber};
 
 // The properties, by the Rust's names in short.

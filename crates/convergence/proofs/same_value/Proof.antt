@@ -1,22 +1,13 @@
 -- `convergence::same_value` meets its contract: two numbers are equal exactly if their bits are. Assumes nothing.
-use mathlib.Core.Bool.{true, false}
-use mathlib.Core.Path.{_≡_, refl, sym, ap, _∙_}
+use mathlib.Core.Path.{_≡_, sym, ap, _∙_}
 use mir.Facts.{toZ-ofZ}
 use mir.Syntax.{Width, w64}
 use mir.Val.{SFits, toZ, ofZ}
 use lib.IntN.{ℤ, ℤ-discrete}
-use Rattle.convergence.specs.Convergence.{decided, sameValue}
+use Rattle.convergence.specs.Convergence.{sameValue}
+use Rattle.convergence.proofs.Values.{told-same, told-other}
 use Rattle.convergence.proofs.same_value.Statement.{statement}
 use Rattle.convergence.proofs.same_value.Tie as tie
-
--- two values' test
-told-same : {A : Type 0} (d : Dec A) → A → decided d ≡ true
-told-same (yes e) a = refl
-told-same (no h) a = absurd (h a)
-
-told-other : {A : Type 0} (d : Dec A) → (A → ⊥) → decided d ≡ false
-told-other (yes e) h = absurd (h e)
-told-other (no k) h = refl
 
 -- the code compares bits
 same-bits : {w : Width} (a b : ℤ) → SFits w a → SFits w b → ofZ w a ≡ ofZ w b → a ≡ b

@@ -13,7 +13,7 @@ use Rattle.snapshots.proofs.Known.{count-known, snapshot-known}
 use Rattle.convergence.specs.Convergence.{converged}
 use Rattle.convergence.specs.Core.{coreFits}
 use Rattle.convergence.proofs.Core.{core-known}
-use Rattle.properties.specs.Calls.{endAnswer}
+use Rattle.properties.specs.Calls.{endRefusal, endAnswer}
 use Rattle.verdicts.specs.declared.Answer.the-variants.{Refused}
 use Rattle.verdicts.specs.declared.Refusal.the-variants.{PlantCount, BadSnapshot, BadTracker}
 use Rattle.properties.proofs.end.Statement.{statement}
@@ -21,28 +21,28 @@ use Rattle.properties.proofs.end.Tie as tie
 
 module _ (n : ℕ) (p l : List ℕ) (values : List ℤ) (core t : List ℕ) where
   miscounted : plantCount n ≡ false → Refused PlantCount ≡ endAnswer n p l values core t
-  unfolding endAnswer
+  unfolding endAnswer endRefusal
   miscounted e = rw e
 
   unfit : plantCount n ≡ true → snapshotFits n p l ≡ false → Refused BadSnapshot ≡ endAnswer n p l values core t
-  unfolding endAnswer
+  unfolding endAnswer endRefusal
   unfit e f = rw (e, f)
 
   unvalued : plantCount n ≡ true → snapshotFits n p l ≡ true → (length values ≡ n → ⊥) → Refused BadSnapshot ≡ endAnswer n p l values core t
-  unfolding endAnswer
+  unfolding endAnswer endRefusal
   unvalued e f g = rw (e, f, ne-eqb (length values) n g)
 
   no-core : plantCount n ≡ true → snapshotFits n p l ≡ true → length values ≡ n → coreFits n core ≡ false → Refused BadSnapshot ≡ endAnswer n p l values core t
-  unfolding endAnswer
+  unfolding endAnswer endRefusal
   no-core e f g h = rw (e, f, eq-eqb (length values) n g, h)
 
   module _ (e : plantCount n ≡ true) (f : snapshotFits n p l ≡ true) (g : length values ≡ n) (h : coreFits n core ≡ true) where
     untracked : trackerFits n t ≡ false → Refused BadTracker ≡ endAnswer n p l values core t
-    unfolding endAnswer
+    unfolding endAnswer endRefusal
     untracked k = rw (e, f, eq-eqb (length values) n g, h, k)
 
     taken : trackerFits n t ≡ true → converged (clusterIn n p l t) values core ≡ endAnswer n p l values core t
-    unfolding endAnswer
+    unfolding endAnswer endRefusal
     taken k = rw (e, f, eq-eqb (length values) n g, h, k)
 
 plant-count-requires : tie.Need-plant-count-requires

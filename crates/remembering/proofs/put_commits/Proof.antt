@@ -1,13 +1,13 @@
 -- `remembering::put_commits` meets its contract. The loop's invariant: behind the length, the commits of the plants passed are laid. Assumes
 -- nothing.
 use native.Mathlib.Omega.{arith}
-use mathlib.Core.List.{List, [], _∷_}
+use mathlib.Core.List.{List}
 use mathlib.Core.Path.{_≡_, refl, ap, _∙_}
-use Prim.Native.Nat.{ℕ, _+_, _-_, _≤_, _<_}
+use Prim.Native.Nat.{ℕ, _+_, _-_, _≤_}
 use lib.ListN.{length, getD, set, length-set}
 use Rattle.snapshots.specs.Below.{numbered}
 use Rattle.snapshots.specs.Layout.{commitAt, laid}
-use Rattle.snapshots.proofs.Laid.{laid-on, laid-set, laid-numbered, laid-start}
+use Rattle.snapshots.proofs.Laid.{laid-numbered, laid-start, laid-first}
 use Rattle.remembering.proofs.put_commits.Statement.{statement}
 use Rattle.remembering.proofs.put_commits.Tie as tie
 
@@ -19,10 +19,6 @@ Inv-loop n plants tracker₀ longest r₀ tracker r = (r ≤ n) × (length track
 
 abbrev μ-loop : tie.MeasureT-loop
 μ-loop n plants tracker₀ longest r₀ tracker r = n - r
-
--- the length, and the commits behind it
-joined : (w : List ℕ) (x : ℕ) (vs : List ℕ) → 1 < length w → laid (set w 1 x) 2 vs ≡ laid w 1 (x ∷ vs)
-joined w x vs h = ap (λ (u : List ℕ). laid u 2 vs) (laid-set w 1 x h) ∙ laid-on w 1 (x ∷ []) vs 2 (omega arith) refl
 
 slice-write-tracker : tie.Need-slice-write-tracker Inv-loop μ-loop
 slice-write-tracker c = omega arith
@@ -80,7 +76,7 @@ returns c =
     let z : l .r ≡ a .n = omega arith in
     l .inv .2
     ∙ (ap (λ (k : ℕ). laid (set (a .tracker .now) 1 (a .longest)) 2 (numbered k (commits (a .plants .now)))) z
-    ∙ joined (a .tracker .now) (a .longest) (numbered (a .n) (commits (a .plants .now))) (omega arith))
+    ∙ laid-first (a .tracker .now) 1 (a .longest) (numbered (a .n) (commits (a .plants .now))) (omega arith))
 
 pub put-commits-spec : {M : Type 1} → statement M
 put-commits-spec =
