@@ -63,7 +63,7 @@ pub fn convergence(
     ensures { λ a. ⌜ a ≡ converged (clusterIn n (now (plants .entry)) (now (logs .entry)) (now (tracker .entry))) (now (values .entry)) (now (core .entry)) ⌝ }
 {
     let reference = snapshots::number(core, 0);
-    let mut k: usize = 0;
+    let mut k: usize = 0; // the first one too, for its commit
     while k < core.len() {
         let id = snapshots::number(core, k);
         let tested = converged_with(n, plants, logs, values, reference, id);
