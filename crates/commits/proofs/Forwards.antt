@@ -39,5 +39,6 @@ forward-known n p l t e =
     known r h =
         passed r (getD p (commitAt r) 0) (getD p (opAt r) 0) (getD p (sizeAt r) 0) (getD t (lastAt r) 0)
         (rw (← commit-held n p l t r h, ← op-held n p l t r h, ← size-held n p l t r h, ← last-held n p l t r h)
-        (first-pass (λ r. commitTests r (plant (clusterIn n p l t) r .commit) (plant (clusterIn n p l t) r .op) (length (plant (clusterIn n p l t) r .log)) (last (clusterIn n p l t) r))
+        (first-pass (λ r. commitTests r (plant (clusterIn n p l t) r .commit) (plant (clusterIn n p l t) r .op)
+        (length (plant (clusterIn n p l t) r .log)) (last (clusterIn n p l t) r))
         0 n e r (omega arith) (omega arith)))

@@ -48,7 +48,8 @@ module _ (c : Cluster) (values : List ℤ) (reference id : ℕ) where
       let a = then-pass (firstFailed Convergence id 1 (eqb (length (plant c id .log)) (length (plant c reference .log)) ∷ [])) _ e in
       let b = then-pass (firstOf compared 0 (length (plant c id .log))) _ (a .1) in
       let long = eqb-true (length (plant c id .log)) (length (plant c reference .log)) (first-holds Convergence id 1 _ [] (a .0) .0) in
-      let d = first-holds Convergence id 3 (eqb (plant c id .commit) (length (plant c id .log))) (sameValue (getD values id (pos 0)) (getD values reference (pos 0)) ∷ []) (b .1) in
+      let d = first-holds Convergence id 3 (eqb (plant c id .commit) (length (plant c id .log)))
+      (sameValue (getD values id (pos 0)) (getD values reference (pos 0)) ∷ []) (b .1) in
       record {
         log = ext-getD noEntry (plant c id .log) (plant c reference .log) long
             (λ i h. same-entries _ _ (test-holds Convergence id i 2 _ (first-pass compared 0 (length (plant c id .log)) (b .0) i (omega arith) (omega arith))));
@@ -62,7 +63,8 @@ module _ (c : Cluster) (values : List ℤ) (reference id : ℕ) where
       rw (
         eq-eqb (length (plant c id .log)) (length (plant c reference .log)) (ap length (a .log)),
         all-pass compared 0 (length (plant c id .log))
-            (λ i b d. rw (entries-same (getD (plant c id .log) i noEntry) (getD (plant c reference .log) i noEntry) (ap (λ (l : List Entry). getD l i noEntry) (a .log)))),
+            (λ i b d. rw (entries-same (getD (plant c id .log) i noEntry) (getD (plant c reference .log) i noEntry)
+            (ap (λ (l : List Entry). getD l i noEntry) (a .log)))),
         eq-eqb (plant c id .commit) (length (plant c id .log)) (a .committed),
         told-same (ℤ-discrete (getD values id (pos 0)) (getD values reference (pos 0))) (a .value),
       )
@@ -72,6 +74,8 @@ pub exactly : (c : Cluster) (values : List ℤ) (core : List ℕ)
     → (converged c values core ≡ Pass) ↔ ((k : ℕ) → k < length core → Alike c values (getD core 0 0) (getD core k 0))
 unfolding converged
 exactly c values core = (
-  λ e k h. alike c values (getD core 0 0) (getD core k 0) (first-pass (λ k. convergedWith c values (getD core 0 0) (getD core k 0)) 0 (length core) e k (omega arith) (omega arith)),
-  λ a. all-pass (λ k. convergedWith c values (getD core 0 0) (getD core k 0)) 0 (length core) (λ k l h. passes c values (getD core 0 0) (getD core k 0) (a k (omega arith))),
+  λ e k h. alike c values (getD core 0 0) (getD core k 0) (first-pass (λ k. convergedWith c values (getD core 0 0) (getD core k 0)) 0 (length core) e
+      k (omega arith) (omega arith)),
+  λ a. all-pass (λ k. convergedWith c values (getD core 0 0) (getD core k 0)) 0 (length core)
+      (λ k l h. passes c values (getD core 0 0) (getD core k 0) (a k (omega arith))),
 )

@@ -140,7 +140,8 @@ module _ (n : ℕ) (p l t : List ℕ) (s : Snapshot n p l) (k : Tracked n t) (f 
       behind (canonicalAt n i + m) (omega arith)
       ∙ (ap (λ (w : List ℕ). getD w (canonicalAt n i + m) 0) listed-is
       ∙ (ap (λ (j : ℕ). getD (laid seen (canonicalAt n (getD t 1 0)) (wordsOf (appended c))) j 0) z
-      ∙ laid-within seen (canonicalAt n (getD t 1 0)) (wordsOf (appended c)) ((i - getD t 1 0) * entryWords + m) (omega (arith, appended-words)) (omega (arith, seen-long, k .canonical)))))
+      ∙ laid-within seen (canonicalAt n (getD t 1 0)) (wordsOf (appended c)) ((i - getD t 1 0) * entryWords + m) (omega (arith, appended-words))
+      (omega (arith, seen-long, k .canonical)))))
 
   appended-at : (i : ℕ) → getD t 1 0 ≤ i → i < lengthAfter c → getD (appended c) (i - getD t 1 0) noEntry ≡ canonicalEntry c i
   unfolding appended
@@ -171,7 +172,8 @@ module _ (n : ℕ) (p l t : List ℕ) (s : Snapshot n p l) (k : Tracked n t) (f 
     reaches : (q : ℕ) → q < n → (last c q ≡ getD t (lastAt q) 0) × (length (newIds c q) ≡ getD p (commitAt q) 0 - getD t (lastAt q) 0)
     reaches q g = (
       last-held n p l t q g,
-      ap length (ids-held n p l t s k f q g) ∙ length-numbered (getD p (commitAt q) 0 - getD t (lastAt q) 0) (λ j. getD l (entryAt q (getD t (lastAt q) 0 + j) + 2) 0),
+      ap length (ids-held n p l t s k f q g) ∙ length-numbered (getD p (commitAt q) 0 - getD t (lastAt q) 0)
+          (λ j. getD l (entryAt q (getD t (lastAt q) 0 + j) + 2) 0),
     )
 
     -- the ids of the plants before it lie before it, and those of the plants after it behind it
@@ -194,7 +196,16 @@ module _ (n : ℕ) (p l t : List ℕ) (s : Snapshot n p l) (k : Tracked n t) (f 
         elim (decLt r m) [
           | yes x ↦
               laid-below (withIds c m t) (seenAt n m (last c m)) (newIds c m) (seenAt n r i) 0 (omega arith)
-              (omega (arith, ids-kept n p l t s k f m (omega arith) .0, k .words, reaches m (omega arith) .0, f .onward m (omega arith), f .within m (omega arith), s .sizes m (omega arith)))
+              (omega (
+                arith,
+                ids-kept n p l t s k f m (omega arith) .0,
+                k .words,
+                reaches m (omega arith) .0,
+                f .onward m (omega arith),
+                f .within m
+                    (omega arith),
+                s .sizes m (omega arith),
+              ))
               ∙ later m v x (omega arith) e
           | no x ↦ let z : m ≡ r = omega arith in ap (λ (j : ℕ). getD (withIds c (suc j) t) (seenAt n r i) 0) z ∙ e
         ]
@@ -219,7 +230,8 @@ module _ (n : ℕ) (p l t : List ℕ) (s : Snapshot n p l) (k : Tracked n t) (f 
         (ap (λ (j : ℕ). getD (withIds c (suc r) t) j 0) z
         ∙ (laid-within (withIds c r t) (seenAt n r (last c r)) (newIds c r) (i - getD t (lastAt r) 0) (omega (arith, e .1))
         (omega (arith, ids-kept n p l t s k f r (omega arith) .0, k .words, e .0, f .within r h, s .sizes r h))
-        ∙ (getD-numbered (plant c r .commit - last c r) (λ j. entry c r (last c r + j) .id) (i - getD t (lastAt r) 0) 0 (omega (arith, e .0, commit-held n p l t r h))
+        ∙ (getD-numbered (plant c r .commit - last c r) (λ j. entry c r (last c r + j) .id) (i - getD t (lastAt r) 0) 0
+        (omega (arith, e .0, commit-held n p l t r h))
         ∙ ap (λ (j : ℕ). entry c r j .id) y)))
 
     pub after-old : i < getD t (lastAt r) 0 → getD (remembered c t) (seenAt n r i) 0 ≡ getD t (seenAt n r i) 0
@@ -267,7 +279,8 @@ module _ (n : ℕ) (p l t : List ℕ) (s : Snapshot n p l) (k : Tracked n t) (f 
     pub nothing-written : remembered c t ≡ t
     unfolding remembered withCommits
     nothing-written =
-        let listed-same : listed ≡ t = listed-is ∙ (ap (laid seen (canonicalAt n (getD t 1 0))) none-appended ∙ (laid-none seen (canonicalAt n (getD t 1 0)) ∙ no-ids n (omega arith))) in
+        let listed-same : listed ≡ t = listed-is ∙ (ap (laid seen (canonicalAt n (getD t 1 0))) none-appended ∙
+        (laid-none seen (canonicalAt n (getD t 1 0)) ∙ no-ids n (omega arith))) in
         ap (λ (x : List ℕ). laid x 1 front) listed-same
         ∙ (ap (laid t 1) same-front
         ∙ (sym (laid-first t 1 (getD t 1 0) (numbered n (λ r. getD t (2 + r) 0)) (omega (arith, k .words)))

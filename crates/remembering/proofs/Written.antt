@@ -37,7 +37,8 @@ module _ (n : ℕ) (p l t : List ℕ) (s : Snapshot n p l) (k : Tracked n t) (f 
   ids-held r h =
       let c = clusterIn n p l t in
       rw (commit-held n p l t r h, last-held n p l t r h)
-      (numbered-same (getD p (commitAt r) 0 - getD t (lastAt r) 0) (λ j. entry c r (getD t (lastAt r) 0 + j) .id) (λ j. getD l (entryAt r (getD t (lastAt r) 0 + j) + 2) 0)
+      (numbered-same (getD p (commitAt r) 0 - getD t (lastAt r) 0) (λ j. entry c r (getD t (lastAt r) 0 + j) .id)
+      (λ j. getD l (entryAt r (getD t (lastAt r) 0 + j) + 2) 0)
       (λ j g. ap (λ (e : Entry). e .id) (entry-held n p l t r h (getD t (lastAt r) 0 + j) (omega (arith, f .within r h)))))
 
   -- the ids lie in the last part: the words before it stay
@@ -49,7 +50,8 @@ module _ (n : ℕ) (p l t : List ℕ) (s : Snapshot n p l) (k : Tracked n t) (f 
   ids-kept (suc r) h =
       let c = clusterIn n p l t in
       let i = ids-kept r (omega arith) in
-      let m = ap length (ids-held r (omega arith)) ∙ length-numbered (getD p (commitAt r) 0 - getD t (lastAt r) 0) (λ j. getD l (entryAt r (getD t (lastAt r) 0 + j) + 2) 0) in
+      let m = ap length (ids-held r (omega arith)) ∙ length-numbered (getD p (commitAt r) 0 - getD t (lastAt r) 0)
+      (λ j. getD l (entryAt r (getD t (lastAt r) 0 + j) + 2) 0) in
       let e = last-held n p l t r (omega arith) in
       let a : seenAt n r (last c r) + length (newIds c r) ≤ length (withIds c r t) =
       omega (arith, k .words, s .sizes r (omega arith), f .within r (omega arith), f .onward r (omega arith)) in (

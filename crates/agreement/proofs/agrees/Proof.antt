@@ -25,7 +25,8 @@ module _ (n : ℕ) (p l t : List ℕ) (s : Snapshot n p l) (f : Forward n p t) (
   remembered g =
       rw (canonical-long n p l t, lt-ltb i (getD t 1 0) g, canonical-held n p l t i g, entry-held n p l t r h i (omega (arith, f .within r h)))
 
-  new : getD t 1 0 ≤ i → (q : ℕ) → q ≡ committer (clusterIn n p l t) i → sameEntry (entryIn l (entryAt q i)) (entryIn l (entryAt r i)) ≡ agrees (clusterIn n p l t) r i
+  new : getD t 1 0 ≤ i → (q : ℕ) → q ≡ committer (clusterIn n p l t) i → sameEntry (entryIn l (entryAt q i)) (entryIn l (entryAt r i)) ≡ agrees
+      (clusterIn n p l t) r i
   unfolding agrees canonicalEntry
   new g q e =
       rw (canonical-long n p l t, le-ltb i (getD t 1 0) g, committed-entry n p l t s f i r h k, entry-held n p l t r h i (omega (arith, f .within r h)), e)
@@ -59,47 +60,92 @@ same-entry-requires c κs = search needs
 
 returns : tie.Need-returns
 returns c =
+    let pre = c .before .before .before .before .before .before .pre in
     let a = c .before .before .before .before .before .before .args in
     c .same-entry .ensures
-    ∙ remembered (a .n) (a .plants .now) (a .logs .now) (a .tracker .now) (c .before .before .before .before .before .before .pre .0 .0) (c .before .before .before .before .before .before .pre .0 .2) (a .r) (a .i) (c .before .before .before .before .before .before .pre .1 .0) (c .before .before .before .before .before .before .pre .1 .1) (omega (arith, c .before .before .number .ensures, c .before .if1 .taken))
+    ∙ remembered (a .n) (a .plants .now) (a .logs .now) (a .tracker .now) (pre .0 .0) (pre .0 .2) (a .r) (a .i) (pre .1 .0) (pre .1 .1)
+    (omega (arith, c .before .before .number .ensures, c .before .if1 .taken))
 
 committer-requires : tie.Need-committer-requires
 committer-requires c κs = search needs
 
 mul-same-entry-4 : tie.Need-mul-same-entry-4
 mul-same-entry-4 c =
-    omega (arith, plant-of (c .before .before .before .before .before .before .args .n) (c .before .before .before .before .before .before .args .plants .now) (c .before .before .before .before .before .before .args .logs .now) (c .before .before .before .before .before .before .args .tracker .now) (c .before .before .before .before .before .before .pre .0 .0) (c .before .before .before .before .before .before .pre .0 .2) (c .before .before .before .before .before .before .args .r) (c .before .before .before .before .before .before .args .i) (c .before .before .before .before .before .before .pre .1 .0) (c .before .before .before .before .before .before .pre .1 .1) (c .committer .result) (c .committer .ensures (c .before .before .before .before .before .before .args .logs .now) (c .before .before .before .before .before .before .args .tracker .now)), c .before .before .before .before .before .before .pre .0 .0 .few)
+    let args = c .before .before .before .before .before .before .args in
+    let pre = c .before .before .before .before .before .before .pre in
+    omega (
+      arith,
+      plant-of (args .n) (args .plants .now) (args .logs .now) (args .tracker .now) (pre .0 .0) (pre .0 .2) (args .r) (args .i)
+          (pre .1 .0) (pre .1 .1) (c .committer .result) (c .committer .ensures (args .logs .now) (args .tracker .now)),
+      pre .0 .0 .few,
+    )
 
 mul-same-entry-5 : tie.Need-mul-same-entry-5
 mul-same-entry-5 c =
-    omega (arith, within (c .before .before .before .before .before .before .args .n) (c .before .before .before .before .before .before .args .plants .now) (c .before .before .before .before .before .before .args .logs .now) (c .before .before .before .before .before .before .args .tracker .now) (c .before .before .before .before .before .before .pre .0 .0) (c .before .before .before .before .before .before .pre .0 .2) (c .before .before .before .before .before .before .args .r) (c .before .before .before .before .before .before .args .i) (c .before .before .before .before .before .before .pre .1 .0) (c .before .before .before .before .before .before .pre .1 .1))
+    let args = c .before .before .before .before .before .before .args in
+    let pre = c .before .before .before .before .before .before .pre in
+    omega (
+      arith,
+      within (args .n) (args .plants .now) (args .logs .now) (args .tracker .now) (pre .0 .0) (pre .0 .2) (args .r) (args .i) (pre .1 .0)
+          (pre .1 .1),
+    )
 
 add-same-entry-4 : tie.Need-add-same-entry-4
 add-same-entry-4 c =
-    omega (arith, plant-of (c .before .before .before .before .before .before .args .n) (c .before .before .before .before .before .before .args .plants .now) (c .before .before .before .before .before .before .args .logs .now) (c .before .before .before .before .before .before .args .tracker .now) (c .before .before .before .before .before .before .pre .0 .0) (c .before .before .before .before .before .before .pre .0 .2) (c .before .before .before .before .before .before .args .r) (c .before .before .before .before .before .before .args .i) (c .before .before .before .before .before .before .pre .1 .0) (c .before .before .before .before .before .before .pre .1 .1) (c .committer .result) (c .committer .ensures (c .before .before .before .before .before .before .args .logs .now) (c .before .before .before .before .before .before .args .tracker .now)), within (c .before .before .before .before .before .before .args .n) (c .before .before .before .before .before .before .args .plants .now) (c .before .before .before .before .before .before .args .logs .now) (c .before .before .before .before .before .before .args .tracker .now) (c .before .before .before .before .before .before .pre .0 .0) (c .before .before .before .before .before .before .pre .0 .2) (c .before .before .before .before .before .before .args .r) (c .before .before .before .before .before .before .args .i) (c .before .before .before .before .before .before .pre .1 .0) (c .before .before .before .before .before .before .pre .1 .1), c .before .before .before .before .before .before .pre .0 .0 .few)
+    let args = c .before .before .before .before .before .before .args in
+    let pre = c .before .before .before .before .before .before .pre in
+    omega (
+      arith,
+      plant-of (args .n) (args .plants .now) (args .logs .now) (args .tracker .now) (pre .0 .0) (pre .0 .2) (args .r) (args .i)
+          (pre .1 .0) (pre .1 .1) (c .committer .result) (c .committer .ensures (args .logs .now) (args .tracker .now)),
+      within (args .n)
+          (args .plants .now) (args .logs .now) (args .tracker .now) (pre .0 .0) (pre .0 .2) (args .r) (args .i) (pre .1 .0) (pre .1 .1),
+      pre .0 .0 .few,
+    )
 
 mul-same-entry-6 : tie.Need-mul-same-entry-6
 mul-same-entry-6 c = search needs
 
 mul-same-entry-7 : tie.Need-mul-same-entry-7
 mul-same-entry-7 c =
-    omega (arith, within (c .before .before .before .before .before .before .args .n) (c .before .before .before .before .before .before .args .plants .now) (c .before .before .before .before .before .before .args .logs .now) (c .before .before .before .before .before .before .args .tracker .now) (c .before .before .before .before .before .before .pre .0 .0) (c .before .before .before .before .before .before .pre .0 .2) (c .before .before .before .before .before .before .args .r) (c .before .before .before .before .before .before .args .i) (c .before .before .before .before .before .before .pre .1 .0) (c .before .before .before .before .before .before .pre .1 .1))
+    let args = c .before .before .before .before .before .before .args in
+    let pre = c .before .before .before .before .before .before .pre in
+    omega (
+      arith,
+      within (args .n) (args .plants .now) (args .logs .now) (args .tracker .now) (pre .0 .0) (pre .0 .2) (args .r) (args .i) (pre .1 .0)
+          (pre .1 .1),
+    )
 
 add-same-entry-5 : tie.Need-add-same-entry-5
 add-same-entry-5 c =
-    omega (arith, within (c .before .before .before .before .before .before .args .n) (c .before .before .before .before .before .before .args .plants .now) (c .before .before .before .before .before .before .args .logs .now) (c .before .before .before .before .before .before .args .tracker .now) (c .before .before .before .before .before .before .pre .0 .0) (c .before .before .before .before .before .before .pre .0 .2) (c .before .before .before .before .before .before .args .r) (c .before .before .before .before .before .before .args .i) (c .before .before .before .before .before .before .pre .1 .0) (c .before .before .before .before .before .before .pre .1 .1), c .before .before .before .before .before .before .pre .0 .0 .few, c .before .before .before .before .before .before .pre .1 .0)
+    let args = c .before .before .before .before .before .before .args in
+    let pre = c .before .before .before .before .before .before .pre in
+    omega (
+      arith,
+      within (args .n) (args .plants .now) (args .logs .now) (args .tracker .now) (pre .0 .0) (pre .0 .2) (args .r) (args .i) (pre .1 .0)
+          (pre .1 .1),
+      pre .0 .0 .few,
+      pre .1 .0,
+    )
 
 same-entry-requires-2 : tie.Need-same-entry-requires-2
 same-entry-requires-2 c κs =
-    let q = plant-of (c .before .before .before .before .before .before .args .n) (c .before .before .before .before .before .before .args .plants .now) (c .before .before .before .before .before .before .args .logs .now) (c .before .before .before .before .before .before .args .tracker .now) (c .before .before .before .before .before .before .pre .0 .0) (c .before .before .before .before .before .before .pre .0 .2) (c .before .before .before .before .before .before .args .r) (c .before .before .before .before .before .before .args .i) (c .before .before .before .before .before .before .pre .1 .0) (c .before .before .before .before .before .before .pre .1 .1) (c .committer .result) (c .committer .ensures (c .before .before .before .before .before .before .args .logs .now) (c .before .before .before .before .before .before .args .tracker .now)) in
-    let w = within (c .before .before .before .before .before .before .args .n) (c .before .before .before .before .before .before .args .plants .now) (c .before .before .before .before .before .before .args .logs .now) (c .before .before .before .before .before .before .args .tracker .now) (c .before .before .before .before .before .before .pre .0 .0) (c .before .before .before .before .before .before .pre .0 .2) (c .before .before .before .before .before .before .args .r) (c .before .before .before .before .before .before .args .i) (c .before .before .before .before .before .before .pre .1 .0) (c .before .before .before .before .before .before .pre .1 .1) in
-    (omega (arith, c .before .before .before .before .before .before .pre .0 .0 .logs), omega (arith, c .before .before .before .before .before .before .pre .0 .0 .logs, c .before .before .before .before .before .before .pre .1 .0))
+    let args = c .before .before .before .before .before .before .args in
+    let pre = c .before .before .before .before .before .before .pre in
+    let q = plant-of (args .n) (args .plants .now) (args .logs .now) (args .tracker .now) (pre .0 .0) (pre .0 .2) (args .r) (args .i) (pre .1 .0)
+    (pre .1 .1) (c .committer .result) (c .committer .ensures (args .logs .now) (args .tracker .now)) in
+    let w = within (args .n) (args .plants .now) (args .logs .now) (args .tracker .now) (pre .0 .0) (pre .0 .2) (args .r) (args .i) (pre .1 .0) (pre .1 .1) in
+    (omega (arith, pre .0 .0 .logs), omega (arith, pre .0 .0 .logs, pre .1 .0))
 
 returns-2 : tie.Need-returns-2
 returns-2 c =
+    let pre = c .before .before .before .before .before .before .before .pre in
+    let the-committer = c .before .committer in
     let a = c .before .before .before .before .before .before .before .args in
     c .same-entry2 .ensures
-    ∙ new (a .n) (a .plants .now) (a .logs .now) (a .tracker .now) (c .before .before .before .before .before .before .before .pre .0 .0) (c .before .before .before .before .before .before .before .pre .0 .2) (a .r) (a .i) (c .before .before .before .before .before .before .before .pre .1 .0) (c .before .before .before .before .before .before .before .pre .1 .1) (omega (arith, c .before .before .before .number .ensures, c .before .before .if1 .left)) (c .before .committer .result) (c .before .committer .ensures (a .logs .now) (a .tracker .now))
+    ∙ new (a .n) (a .plants .now) (a .logs .now) (a .tracker .now) (pre .0 .0) (pre .0 .2) (a .r) (a .i) (pre .1 .0) (pre .1 .1)
+    (omega (arith, c .before .before .before .number .ensures, c .before .before .if1 .left)) (the-committer .result)
+    (the-committer .ensures (a .logs .now) (a .tracker .now))
 
 pub agrees-spec : {M : Type 1} → statement M
 agrees-spec =

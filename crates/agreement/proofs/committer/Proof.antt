@@ -59,9 +59,11 @@ number-requires c κs = search needs
 
 returns : tie.Need-returns Inv-loop μ-loop
 returns c =
+    let loop = c .before .before .before .loop in
     λ l t.
     let a = c .before .before .before .before .before .args in
-    sym (c .before .before .before .loop .inv .1 l t ∙ found (a .n) (a .plants .now) l t (a .i) (c .before .before .before .loop .q) (c .before .before .loop-test .taken) (omega (arith, c .before .number .ensures)))
+    sym (loop .inv .1 l t ∙ found (a .n) (a .plants .now) l t (a .i) (loop .q) (c .before .before .loop-test .taken)
+    (omega (arith, c .before .number .ensures)))
 
 add-q : tie.Need-add-q Inv-loop μ-loop
 add-q c = omega arith
@@ -71,14 +73,19 @@ loop-less c = omega arith
 
 loop-again : tie.Need-loop-again Inv-loop μ-loop
 loop-again c =
-    let a = c .before .before .before .before .before .args in
-    (omega arith, λ l t. c .before .before .before .loop .inv .1 l t ∙ passed (a .n) (a .plants .now) l t (a .i) (c .before .before .before .loop .q) (c .before .before .loop-test .taken) (omega (arith, c .before .number .ensures)))
+    let loop = c .before .before .before .loop in
+    let a = c .before .before .before .before .before .args in (
+      omega arith,
+      λ l t. loop .inv .1 l t ∙ passed (a .n) (a .plants .now) l t (a .i) (loop .q) (c .before .before .loop-test .taken)
+          (omega (arith, c .before .number .ensures)),
+    )
 
 returns-2 : tie.Need-returns-2 Inv-loop μ-loop
 returns-2 c =
+    let loop = c .before .loop in
     λ l t.
     let a = c .before .before .before .args in
-    sym (c .before .loop .inv .1 l t ∙ ended (a .n) (a .plants .now) l t (a .i) (c .before .loop .q) (c .loop-test .left))
+    sym (loop .inv .1 l t ∙ ended (a .n) (a .plants .now) l t (a .i) (loop .q) (c .loop-test .left))
 
 pub committer-spec : {M : Type 1} → statement M
 committer-spec =

@@ -32,7 +32,12 @@ unfolding commitTests
 returns-3 c =
     let a = c .before .before .before .before .args in
     c .broken3 .ensures
-    ∙ rw (eq-eqb (a .op) (a .size) (c .before .before .before .if1 .left), le-leb (a .commit) (a .op) (c .before .before .if2 .left), lt-leb (a .last) (a .commit) (c .before .if3 .taken))
+    ∙ rw (
+      eq-eqb (a .op) (a .size) (c .before .before .before .if1 .left),
+      le-leb (a .commit) (a .op) (c .before .before .if2 .left),
+      lt-leb (a .last)
+          (a .commit) (c .before .if3 .taken),
+    )
 
 returns-4 : tie.Need-returns-4
 unfolding commitTests

@@ -20,7 +20,8 @@ use Rattle.commits.proofs.commit_numbers.Tie as tie
 -- property 1 of a plant, and in words
 abbrev tests : ℕ → List ℕ → List ℕ → List ℕ → ℕ → Answer
 tests n p l t r =
-    commitTests r (plant (clusterIn n p l t) r .commit) (plant (clusterIn n p l t) r .op) (length (plant (clusterIn n p l t) r .log)) (last (clusterIn n p l t) r)
+    commitTests r (plant (clusterIn n p l t) r .commit) (plant (clusterIn n p l t) r .op) (length (plant (clusterIn n p l t) r .log))
+    (last (clusterIn n p l t) r)
 
 module _ (n : ℕ) (p l t : List ℕ) (r : ℕ) (h : r < n) where
   in-words : (commit op size was : ℕ) → commit ≡ getD p (commitAt r) 0 → op ≡ getD p (opAt r) 0 → size ≡ getD p (sizeAt r) 0
@@ -89,13 +90,18 @@ enum-told c = omega arith
 
 returns : tie.Need-returns Inv-loop μ-loop
 returns c =
+    let loop-test = c .before .before .before .before .before .before .loop-test in
+    let the-number = c .before .before .before .before .before .number in
+    let the-number2 = c .before .before .before .before .number2 in
+    let the-commit-number = c .before .commit-number in
     λ l.
     let a = c .before .before .before .before .before .before .before .before .before .before .args in
     let i = c .before .before .before .before .before .before .before .loop in
-    stopped (a .n) (a .plants .now) l (a .tracker .now) (i .r) (c .before .commit-number .result) (c .before .before .before .before .before .before .loop-test .taken)
-    (in-words (a .n) (a .plants .now) l (a .tracker .now) (i .r) (c .before .before .before .before .before .before .loop-test .taken) _ _ _ _ (c .before .before .before .before .before .number .ensures) (c .before .before .before .before .number2 .ensures) (c .before .before .before .number3 .ensures) (c .before .before .number4 .ensures)
-    ∙ sym (c .before .commit-number .ensures))
-    (no-pass (c .before .commit-number .result) (c .match .keys2))
+    stopped (a .n) (a .plants .now) l (a .tracker .now) (i .r) (the-commit-number .result) (loop-test .taken)
+    (in-words (a .n) (a .plants .now) l (a .tracker .now) (i .r) (loop-test .taken) _ _ _ _ (the-number .ensures) (the-number2 .ensures)
+    (c .before .before .before .number3 .ensures) (c .before .before .number4 .ensures)
+    ∙ sym (the-commit-number .ensures))
+    (no-pass (the-commit-number .result) (c .match .keys2))
     (i .inv .1 l)
 
 add-r : tie.Need-add-r Inv-loop μ-loop
@@ -106,19 +112,26 @@ loop-less c = omega arith
 
 loop-again : tie.Need-loop-again Inv-loop μ-loop
 loop-again c =
+    let loop-test = c .before .before .before .before .before .before .before .loop-test in
+    let the-number = c .before .before .before .before .before .before .number in
+    let the-number2 = c .before .before .before .before .before .number2 in
+    let the-number3 = c .before .before .before .before .number3 in
     let a = c .before .before .before .before .before .before .before .before .before .before .before .args in
     let i = c .before .before .before .before .before .before .before .before .loop in (
       omega arith,
       λ l.
           i .inv .1 l
-          ∙ first-on (tests (a .n) (a .plants .now) l (a .tracker .now)) (i .r) (a .n) (c .before .before .before .before .before .before .before .loop-test .taken)
-          (in-words (a .n) (a .plants .now) l (a .tracker .now) (i .r) (c .before .before .before .before .before .before .before .loop-test .taken) _ _ _ _ (c .before .before .before .before .before .before .number .ensures) (c .before .before .before .before .before .number2 .ensures) (c .before .before .before .before .number3 .ensures) (c .before .before .before .number4 .ensures)
+          ∙ first-on (tests (a .n) (a .plants .now) l (a .tracker .now)) (i .r) (a .n) (loop-test .taken)
+          (in-words (a .n) (a .plants .now) l (a .tracker .now) (i .r) (loop-test .taken) _ _ _ _ (the-number .ensures) (the-number2 .ensures)
+          (the-number3 .ensures) (c .before .before .before .number4 .ensures)
           ∙ (sym (c .before .before .commit-number .ensures) ∙ c .enum-told .given .1)),
     )
 
 returns-2 : tie.Need-returns-2 Inv-loop μ-loop
 returns-2 c =
-    λ l. passed (c .before .before .before .before .args .n) (c .before .before .before .before .args .plants .now) l (c .before .before .before .before .args .tracker .now) (c .before .loop .r) (c .loop-test .left) (c .before .loop .inv .1 l)
+    let args = c .before .before .before .before .args in
+    let loop = c .before .loop in
+    λ l. passed (args .n) (args .plants .now) l (args .tracker .now) (loop .r) (c .loop-test .left) (loop .inv .1 l)
 
 pub commit-numbers-spec : {M : Type 1} → statement M
 commit-numbers-spec =

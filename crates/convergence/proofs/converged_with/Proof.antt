@@ -41,15 +41,18 @@ module _ (n : ℕ) (p l t : List ℕ) (values : List ℤ) (reference id : ℕ) (
   other-length e = rw (size-held n p l t id h, size-held n p l t reference f, ne-eqb (getD p (sizeAt id) 0) (getD p (sizeAt reference) 0) e)
 
   module _ (e : getD p (sizeAt id) 0 ≡ getD p (sizeAt reference) 0) where
-    entries-held : firstOf (λ i. atEntry Convergence id i 2 (sameEntry (entry (clusterIn n p l t) id i) (entry (clusterIn n p l t) reference i))) 0 (getD p (sizeAt id) 0)
+    entries-held : firstOf (λ i. atEntry Convergence id i 2 (sameEntry (entry (clusterIn n p l t) id i) (entry (clusterIn n p l t) reference i))) 0
+        (getD p (sizeAt id) 0)
         ≡ firstOf (in-words l reference id) 0 (getD p (sizeAt id) 0)
     entries-held =
-        first-same (λ i. atEntry Convergence id i 2 (sameEntry (entry (clusterIn n p l t) id i) (entry (clusterIn n p l t) reference i))) (in-words l reference id) 0 (getD p (sizeAt id) 0)
+        first-same (λ i. atEntry Convergence id i 2 (sameEntry (entry (clusterIn n p l t) id i) (entry (clusterIn n p l t) reference i)))
+        (in-words l reference id) 0 (getD p (sizeAt id) 0)
         (λ i a b. rw (entry-held n p l t id h i (omega arith), entry-held n p l t reference f i (omega arith)))
 
     -- the two tests after the entries
     abbrev last-two : Answer
-    last-two = firstFailed Convergence id 3 (eqb (plant (clusterIn n p l t) id .commit) (getD p (sizeAt id) 0) ∷ sameValue (getD values id (pos 0)) (getD values reference (pos 0)) ∷ [])
+    last-two = firstFailed Convergence id 3 (eqb (plant (clusterIn n p l t) id .commit) (getD p (sizeAt id) 0) ∷ sameValue (getD values id (pos 0))
+        (getD values reference (pos 0)) ∷ [])
 
     other-entry : (a : Answer) → a ≡ firstOf (in-words l reference id) 0 (getD p (sizeAt id) 0) → (a ≡ Pass → ⊥) → a ≡ answer
     unfolding convergedWith
@@ -59,10 +62,18 @@ module _ (n : ℕ) (p l t : List ℕ) (values : List ℤ) (reference id : ℕ) (
         ∙ rw (size-held n p l t id h, size-held n p l t reference f, eq-eqb (getD p (sizeAt id) 0) (getD p (sizeAt reference) 0) e, entries-held))
 
     the-rest : firstOf (in-words l reference id) 0 (getD p (sizeAt id) 0) ≡ Pass
-        → firstFailed Convergence id 3 (eqb (getD p (commitAt id) 0) (getD p (sizeAt id) 0) ∷ sameValue (getD values id (pos 0)) (getD values reference (pos 0)) ∷ []) ≡ answer
+        → firstFailed Convergence id 3 (eqb (getD p (commitAt id) 0) (getD p (sizeAt id) 0) ∷ sameValue (getD values id (pos 0))
+        (getD values reference (pos 0)) ∷ []) ≡ answer
     unfolding convergedWith
     the-rest g =
-        rw (size-held n p l t id h, size-held n p l t reference f, eq-eqb (getD p (sizeAt id) 0) (getD p (sizeAt reference) 0) e, entries-held, g, commit-held n p l t id h)
+        rw (
+          size-held n p l t id h,
+          size-held n p l t reference f,
+          eq-eqb (getD p (sizeAt id) 0) (getD p (sizeAt reference) 0) e,
+          entries-held,
+          g,
+          commit-held n p l t id h,
+        )
 
     module _ (g : firstOf (in-words l reference id) 0 (getD p (sizeAt id) 0) ≡ Pass) where
       uncommitted : (getD p (commitAt id) 0 ≡ getD p (sizeAt id) 0 → ⊥) → Broken Convergence id 0 3 ≡ answer
@@ -98,18 +109,30 @@ broken-requires c κs = search needs
 
 returns : tie.Need-returns
 returns c =
-    λ t. c .broken .ensures ∙ other-length (c .before .before .before .before .before .before .args .n) (c .before .before .before .before .before .before .args .plants .now) (c .before .before .before .before .before .before .args .logs .now) t (c .before .before .before .before .before .before .args .values .now) (c .before .before .before .before .before .before .args .reference) (c .before .before .before .before .before .before .args .id) (c .before .before .before .before .before .before .pre .2) (c .before .before .before .before .before .before .pre .3) (λ e. c .before .if1 .taken (c .before .before .before .number .ensures ∙ (e ∙ sym (c .before .before .number2 .ensures))))
+    let args = c .before .before .before .before .before .before .args in
+    let pre = c .before .before .before .before .before .before .pre in
+    λ t. c .broken .ensures ∙ other-length (args .n) (args .plants .now) (args .logs .now) t (args .values .now) (args .reference) (args .id) (pre .2)
+    (pre .3) (λ e. c .before .if1 .taken (c .before .before .before .number .ensures ∙ (e ∙ sym (c .before .before .number2 .ensures))))
 
 same-logs-requires : tie.Need-same-logs-requires
 same-logs-requires c κs =
-    (c .before .before .before .before .before .pre .0 .few, c .before .before .before .before .before .pre .0 .logs, c .before .before .before .before .before .pre .2, c .before .before .before .before .before .pre .3, omega (arith, c .before .before .number .ensures, c .before .before .before .before .before .pre .0 .sizes (c .before .before .before .before .before .args .id) (c .before .before .before .before .before .pre .3)))
+    let args = c .before .before .before .before .before .args in
+    let pre = c .before .before .before .before .before .pre in
+    (pre .0 .few, pre .0 .logs, pre .2, pre .3, omega (arith, c .before .before .number .ensures, pre .0 .sizes (args .id) (pre .3)))
 
 enum-told : tie.Need-enum-told
 enum-told c = search needs
 
 returns-2 : tie.Need-returns-2
 returns-2 c =
-    λ t. other-entry (c .before .before .before .before .before .before .before .args .n) (c .before .before .before .before .before .before .before .args .plants .now) (c .before .before .before .before .before .before .before .args .logs .now) t (c .before .before .before .before .before .before .before .args .values .now) (c .before .before .before .before .before .before .before .args .reference) (c .before .before .before .before .before .before .before .args .id) (c .before .before .before .before .before .before .before .pre .2) (c .before .before .before .before .before .before .before .pre .3) (sym (c .before .before .before .before .number .ensures) ∙ (c .before .before .if1 .left ∙ c .before .before .before .number2 .ensures)) (c .before .same-logs .result) (c .before .same-logs .ensures ∙ ap (firstOf (in-words (c .before .before .before .before .before .before .before .args .logs .now) (c .before .before .before .before .before .before .before .args .reference) (c .before .before .before .before .before .before .before .args .id)) 0) (c .before .before .before .before .number .ensures)) (no-pass (c .before .same-logs .result) (c .match .keys2))
+    let args = c .before .before .before .before .before .before .before .args in
+    let pre = c .before .before .before .before .before .before .before .pre in
+    let the-number = c .before .before .before .before .number in
+    let the-same-logs = c .before .same-logs in
+    λ t. other-entry (args .n) (args .plants .now) (args .logs .now) t (args .values .now) (args .reference) (args .id) (pre .2) (pre .3)
+    (sym (the-number .ensures) ∙ (c .before .before .if1 .left ∙ c .before .before .before .number2 .ensures)) (the-same-logs .result)
+    (the-same-logs .ensures ∙ ap (firstOf (in-words (args .logs .now) (args .reference) (args .id)) 0) (the-number .ensures))
+    (no-pass (the-same-logs .result) (c .match .keys2))
 
 mul-number-3 : tie.Need-mul-number-3
 mul-number-3 c = search needs
@@ -125,7 +148,16 @@ broken-requires-2 c κs = search needs
 
 returns-3 : tie.Need-returns-3
 returns-3 c =
-    λ t. c .broken2 .ensures ∙ uncommitted (c .before .before .before .before .before .before .before .before .before .before .before .args .n) (c .before .before .before .before .before .before .before .before .before .before .before .args .plants .now) (c .before .before .before .before .before .before .before .before .before .before .before .args .logs .now) t (c .before .before .before .before .before .before .before .before .before .before .before .args .values .now) (c .before .before .before .before .before .before .before .before .before .before .before .args .reference) (c .before .before .before .before .before .before .before .before .before .before .before .args .id) (c .before .before .before .before .before .before .before .before .before .before .before .pre .2) (c .before .before .before .before .before .before .before .before .before .before .before .pre .3) (sym (c .before .before .before .before .before .before .before .before .number .ensures) ∙ (c .before .before .before .before .before .before .if1 .left ∙ c .before .before .before .before .before .before .before .number2 .ensures)) (sym (c .before .before .before .before .before .same-logs .ensures ∙ ap (firstOf (in-words (c .before .before .before .before .before .before .before .before .before .before .before .args .logs .now) (c .before .before .before .before .before .before .before .before .before .before .before .args .reference) (c .before .before .before .before .before .before .before .before .before .before .before .args .id)) 0) (c .before .before .before .before .before .before .before .before .number .ensures)) ∙ c .before .before .before .enum-told .given .1) (λ e. c .before .if2 .taken (c .before .before .number3 .ensures ∙ (e ∙ sym (c .before .before .before .before .before .before .before .before .number .ensures))))
+    let args = c .before .before .before .before .before .before .before .before .before .before .before .args in
+    let pre = c .before .before .before .before .before .before .before .before .before .before .before .pre in
+    let the-number = c .before .before .before .before .before .before .before .before .number in
+    let the-number2 = c .before .before .before .before .before .before .before .number2 in
+    let if1 = c .before .before .before .before .before .before .if1 in
+    let the-same-logs = c .before .before .before .before .before .same-logs in
+    λ t. c .broken2 .ensures ∙ uncommitted (args .n) (args .plants .now) (args .logs .now) t (args .values .now) (args .reference) (args .id) (pre .2)
+    (pre .3) (sym (the-number .ensures) ∙ (if1 .left ∙ the-number2 .ensures)) (sym
+    (the-same-logs .ensures ∙ ap (firstOf (in-words (args .logs .now) (args .reference) (args .id)) 0) (the-number .ensures)) ∙
+    c .before .before .before .enum-told .given .1) (λ e. c .before .if2 .taken (c .before .before .number3 .ensures ∙ (e ∙ sym (the-number .ensures))))
 
 mul-same-value : tie.Need-mul-same-value
 mul-same-value c = search needs
@@ -147,11 +179,43 @@ broken-requires-3 c κs = search needs
 
 returns-4 : tie.Need-returns-4
 returns-4 c =
-    λ t. c .broken3 .ensures ∙ other-value (c .before .before .before .before .before .before .before .before .before .before .before .before .before .before .before .args .n) (c .before .before .before .before .before .before .before .before .before .before .before .before .before .before .before .args .plants .now) (c .before .before .before .before .before .before .before .before .before .before .before .before .before .before .before .args .logs .now) t (c .before .before .before .before .before .before .before .before .before .before .before .before .before .before .before .args .values .now) (c .before .before .before .before .before .before .before .before .before .before .before .before .before .before .before .args .reference) (c .before .before .before .before .before .before .before .before .before .before .before .before .before .before .before .args .id) (c .before .before .before .before .before .before .before .before .before .before .before .before .before .before .before .pre .2) (c .before .before .before .before .before .before .before .before .before .before .before .before .before .before .before .pre .3) (sym (c .before .before .before .before .before .before .before .before .before .before .before .before .number .ensures) ∙ (c .before .before .before .before .before .before .before .before .before .before .if1 .left ∙ c .before .before .before .before .before .before .before .before .before .before .before .number2 .ensures)) (sym (c .before .before .before .before .before .before .before .before .before .same-logs .ensures ∙ ap (firstOf (in-words (c .before .before .before .before .before .before .before .before .before .before .before .before .before .before .before .args .logs .now) (c .before .before .before .before .before .before .before .before .before .before .before .before .before .before .before .args .reference) (c .before .before .before .before .before .before .before .before .before .before .before .before .before .before .before .args .id)) 0) (c .before .before .before .before .before .before .before .before .before .before .before .before .number .ensures)) ∙ c .before .before .before .before .before .before .before .enum-told .given .1) (sym (c .before .before .before .before .before .before .number3 .ensures) ∙ (c .before .before .before .before .before .if2 .left ∙ c .before .before .before .before .before .before .before .before .before .before .before .before .number .ensures)) (as-read (getD (c .before .before .before .before .before .before .before .before .before .before .before .before .before .before .before .args .values .now) (c .before .before .before .before .before .before .before .before .before .before .before .before .before .before .before .args .id) (pos 0)) (getD (c .before .before .before .before .before .before .before .before .before .before .before .before .before .before .before .args .values .now) (c .before .before .before .before .before .before .before .before .before .before .before .before .before .before .before .args .reference) (pos 0)) (c .before .before .same-value .result) (sfits-of (c .before .before .before .before .same-value-arg .given)) (sfits-of (c .before .before .before .same-value-arg2 .given)) (c .before .before .same-value .ensures) ∙ not-true _ (c .before .if3 .taken))
+    let args = c .before .before .before .before .before .before .before .before .before .before .before .before .before .before .before .args in
+    let pre = c .before .before .before .before .before .before .before .before .before .before .before .before .before .before .before .pre in
+    let the-number = c .before .before .before .before .before .before .before .before .before .before .before .before .number in
+    let the-number2 = c .before .before .before .before .before .before .before .before .before .before .before .number2 in
+    let if1 = c .before .before .before .before .before .before .before .before .before .before .if1 in
+    let the-same-logs = c .before .before .before .before .before .before .before .before .before .same-logs in
+    let the-enum-told = c .before .before .before .before .before .before .before .enum-told in
+    let the-number3 = c .before .before .before .before .before .before .number3 in
+    let if2 = c .before .before .before .before .before .if2 in
+    let the-same-value-arg = c .before .before .before .before .same-value-arg in
+    let the-same-value = c .before .before .same-value in
+    λ t. c .broken3 .ensures ∙ other-value (args .n) (args .plants .now) (args .logs .now) t (args .values .now) (args .reference) (args .id) (pre .2)
+    (pre .3) (sym (the-number .ensures) ∙ (if1 .left ∙ the-number2 .ensures)) (sym
+    (the-same-logs .ensures ∙ ap (firstOf (in-words (args .logs .now) (args .reference) (args .id)) 0) (the-number .ensures)) ∙
+    the-enum-told .given .1) (sym (the-number3 .ensures) ∙ (if2 .left ∙ the-number .ensures))
+    (as-read (getD (args .values .now) (args .id) (pos 0)) (getD (args .values .now) (args .reference) (pos 0)) (the-same-value .result)
+    (sfits-of (the-same-value-arg .given)) (sfits-of (c .before .before .before .same-value-arg2 .given)) (the-same-value .ensures) ∙ not-true _
+    (c .before .if3 .taken))
 
 returns-5 : tie.Need-returns-5
 returns-5 c =
-    λ t. all-equal (c .before .before .before .before .before .before .before .before .before .before .before .before .before .before .args .n) (c .before .before .before .before .before .before .before .before .before .before .before .before .before .before .args .plants .now) (c .before .before .before .before .before .before .before .before .before .before .before .before .before .before .args .logs .now) t (c .before .before .before .before .before .before .before .before .before .before .before .before .before .before .args .values .now) (c .before .before .before .before .before .before .before .before .before .before .before .before .before .before .args .reference) (c .before .before .before .before .before .before .before .before .before .before .before .before .before .before .args .id) (c .before .before .before .before .before .before .before .before .before .before .before .before .before .before .pre .2) (c .before .before .before .before .before .before .before .before .before .before .before .before .before .before .pre .3) (sym (c .before .before .before .before .before .before .before .before .before .before .before .number .ensures) ∙ (c .before .before .before .before .before .before .before .before .before .if1 .left ∙ c .before .before .before .before .before .before .before .before .before .before .number2 .ensures)) (sym (c .before .before .before .before .before .before .before .before .same-logs .ensures ∙ ap (firstOf (in-words (c .before .before .before .before .before .before .before .before .before .before .before .before .before .before .args .logs .now) (c .before .before .before .before .before .before .before .before .before .before .before .before .before .before .args .reference) (c .before .before .before .before .before .before .before .before .before .before .before .before .before .before .args .id)) 0) (c .before .before .before .before .before .before .before .before .before .before .before .number .ensures)) ∙ c .before .before .before .before .before .before .enum-told .given .1) (sym (c .before .before .before .before .before .number3 .ensures) ∙ (c .before .before .before .before .if2 .left ∙ c .before .before .before .before .before .before .before .before .before .before .before .number .ensures)) (as-read (getD (c .before .before .before .before .before .before .before .before .before .before .before .before .before .before .args .values .now) (c .before .before .before .before .before .before .before .before .before .before .before .before .before .before .args .id) (pos 0)) (getD (c .before .before .before .before .before .before .before .before .before .before .before .before .before .before .args .values .now) (c .before .before .before .before .before .before .before .before .before .before .before .before .before .before .args .reference) (pos 0)) (c .before .same-value .result) (sfits-of (c .before .before .before .same-value-arg .given)) (sfits-of (c .before .before .same-value-arg2 .given)) (c .before .same-value .ensures) ∙ not-false _ (c .if3 .left))
+    let args = c .before .before .before .before .before .before .before .before .before .before .before .before .before .before .args in
+    let pre = c .before .before .before .before .before .before .before .before .before .before .before .before .before .before .pre in
+    let the-number = c .before .before .before .before .before .before .before .before .before .before .before .number in
+    let the-number2 = c .before .before .before .before .before .before .before .before .before .before .number2 in
+    let if1 = c .before .before .before .before .before .before .before .before .before .if1 in
+    let the-same-logs = c .before .before .before .before .before .before .before .before .same-logs in
+    let the-enum-told = c .before .before .before .before .before .before .enum-told in
+    let the-number3 = c .before .before .before .before .before .number3 in
+    let if2 = c .before .before .before .before .if2 in
+    let the-same-value = c .before .same-value in
+    λ t. all-equal (args .n) (args .plants .now) (args .logs .now) t (args .values .now) (args .reference) (args .id) (pre .2) (pre .3)
+    (sym (the-number .ensures) ∙ (if1 .left ∙ the-number2 .ensures)) (sym (the-same-logs .ensures ∙ ap
+    (firstOf (in-words (args .logs .now) (args .reference) (args .id)) 0) (the-number .ensures)) ∙ the-enum-told .given .1)
+    (sym (the-number3 .ensures) ∙ (if2 .left ∙ the-number .ensures)) (as-read (getD (args .values .now) (args .id) (pos 0))
+    (getD (args .values .now) (args .reference) (pos 0)) (the-same-value .result) (sfits-of (c .before .before .before .same-value-arg .given))
+    (sfits-of (c .before .before .same-value-arg2 .given)) (the-same-value .ensures) ∙ not-false _ (c .if3 .left))
 
 pub converged-with-spec : {M : Type 1} → statement M
 converged-with-spec =

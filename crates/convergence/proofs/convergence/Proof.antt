@@ -19,7 +19,8 @@ abbrev at : ℕ → List ℕ → List ℕ → List ℤ → List ℕ → List ℕ
 at n p l values core t k = convergedWith (clusterIn n p l t) values (getD core 0 0) (getD core k 0)
 
 abbrev Inv-loop : tie.InvT-loop
-Inv-loop n plants logs values core tracker reference k₀ k = (k ≤ length core) × (firstOf (at n plants logs values core tracker) 0 (length core) ≡ firstOf (at n plants logs values core tracker) k (length core - k))
+Inv-loop n plants logs values core tracker reference k₀ k = (k ≤ length core) × (firstOf (at n plants logs values core tracker) 0 (length core) ≡
+    firstOf (at n plants logs values core tracker) k (length core - k))
 
 abbrev μ-loop : tie.MeasureT-loop
 μ-loop n plants logs values core tracker reference k₀ k = length core - k
@@ -29,7 +30,9 @@ same : (n : ℕ) (p l : List ℕ) (values : List ℤ) (core t : List ℕ) (k ref
 same n p l values core t k reference id a e f g = sym (g ∙ rw (e, f))
 
 number-requires : tie.Need-number-requires Inv-loop μ-loop
-number-requires c κs = c .before .before .before .before .pre .0 .2
+number-requires c κs =
+    let pre = c .before .before .before .before .pre in
+    pre .0 .2
 
 loop-holds : tie.Need-loop-holds Inv-loop μ-loop
 loop-holds c = (omega arith, rw sub-zero)
@@ -39,7 +42,13 @@ number-requires-2 c κs = c .loop-test .taken
 
 converged-with-requires : tie.Need-converged-with-requires Inv-loop μ-loop
 converged-with-requires c κs =
-    (c .before .before .before .before .before .before .before .before .pre .0 .0, c .before .before .before .before .before .before .before .before .pre .0 .1, omega (arith, c .before .before .before .number .ensures, c .before .before .before .before .before .before .before .before .pre .1 0 (c .before .before .before .before .before .before .before .before .pre .0 .2)), omega (arith, c .number2 .ensures, c .before .before .before .before .before .before .before .before .pre .1 (c .before .before .loop .k) (c .before .loop-test .taken)))
+    let pre = c .before .before .before .before .before .before .before .before .pre in (
+      pre .0 .0,
+      pre .0 .1,
+      omega (arith, c .before .before .before .number .ensures, pre .1 0 (pre .0 .2)),
+      omega
+          (arith, c .number2 .ensures, pre .1 (c .before .before .loop .k) (c .before .loop-test .taken)),
+    )
 
 enum-told : tie.Need-enum-told Inv-loop μ-loop
 enum-told c = omega arith
@@ -47,7 +56,16 @@ enum-told c = omega arith
 returns : tie.Need-returns Inv-loop μ-loop
 unfolding converged
 returns c =
-    sym (c .before .before .before .before .loop .inv .1 ∙ first-stop (at (c .before .before .before .before .before .before .before .before .before .before .args .n) (c .before .before .before .before .before .before .before .before .before .before .args .plants .now) (c .before .before .before .before .before .before .before .before .before .before .args .logs .now) (c .before .before .before .before .before .before .before .before .before .before .args .values .now) (c .before .before .before .before .before .before .before .before .before .before .args .core .now) (c .before .before .before .before .before .before .before .before .before .before .args .tracker .now)) (c .before .before .before .before .loop .k) (length (c .before .before .before .before .before .before .before .before .before .before .args .core .now)) (c .before .converged-with .result) (c .before .before .before .loop-test .taken) (same (c .before .before .before .before .before .before .before .before .before .before .args .n) (c .before .before .before .before .before .before .before .before .before .before .args .plants .now) (c .before .before .before .before .before .before .before .before .before .before .args .logs .now) (c .before .before .before .before .before .before .before .before .before .before .args .values .now) (c .before .before .before .before .before .before .before .before .before .before .args .core .now) (c .before .before .before .before .before .before .before .before .before .before .args .tracker .now) (c .before .before .before .before .loop .k) (c .before .before .before .before .before .number .result) (c .before .before .number2 .result) (c .before .converged-with .result) (c .before .before .before .before .before .number .ensures) (c .before .before .number2 .ensures) (c .before .converged-with .ensures (c .before .before .before .before .before .before .before .before .before .before .args .tracker .now))) (no-pass (c .before .converged-with .result) (c .match .keys2)))
+    let args = c .before .before .before .before .before .before .before .before .before .before .args in
+    let the-number = c .before .before .before .before .before .number in
+    let loop = c .before .before .before .before .loop in
+    let the-number2 = c .before .before .number2 in
+    let the-converged-with = c .before .converged-with in
+    sym (loop .inv .1 ∙ first-stop (at (args .n) (args .plants .now) (args .logs .now) (args .values .now) (args .core .now) (args .tracker .now))
+    (loop .k) (length (args .core .now)) (the-converged-with .result) (c .before .before .before .loop-test .taken)
+    (same (args .n) (args .plants .now) (args .logs .now) (args .values .now) (args .core .now) (args .tracker .now) (loop .k)
+    (the-number .result) (the-number2 .result) (the-converged-with .result) (the-number .ensures) (the-number2 .ensures)
+    (the-converged-with .ensures (args .tracker .now))) (no-pass (the-converged-with .result) (c .match .keys2)))
 
 add-k : tie.Need-add-k Inv-loop μ-loop
 add-k c = omega arith
@@ -57,12 +75,27 @@ loop-less c = omega arith
 
 loop-again : tie.Need-loop-again Inv-loop μ-loop
 loop-again c =
-    (omega arith, c .before .before .before .before .before .loop .inv .1 ∙ first-on (at (c .before .before .before .before .before .before .before .before .before .before .before .args .n) (c .before .before .before .before .before .before .before .before .before .before .before .args .plants .now) (c .before .before .before .before .before .before .before .before .before .before .before .args .logs .now) (c .before .before .before .before .before .before .before .before .before .before .before .args .values .now) (c .before .before .before .before .before .before .before .before .before .before .before .args .core .now) (c .before .before .before .before .before .before .before .before .before .before .before .args .tracker .now)) (c .before .before .before .before .before .loop .k) (length (c .before .before .before .before .before .before .before .before .before .before .before .args .core .now)) (c .before .before .before .before .loop-test .taken) ((same (c .before .before .before .before .before .before .before .before .before .before .before .args .n) (c .before .before .before .before .before .before .before .before .before .before .before .args .plants .now) (c .before .before .before .before .before .before .before .before .before .before .before .args .logs .now) (c .before .before .before .before .before .before .before .before .before .before .before .args .values .now) (c .before .before .before .before .before .before .before .before .before .before .before .args .core .now) (c .before .before .before .before .before .before .before .before .before .before .before .args .tracker .now) (c .before .before .before .before .before .loop .k) (c .before .before .before .before .before .before .number .result) (c .before .before .before .number2 .result) (c .before .before .converged-with .result) (c .before .before .before .before .before .before .number .ensures) (c .before .before .before .number2 .ensures) (c .before .before .converged-with .ensures (c .before .before .before .before .before .before .before .before .before .before .before .args .tracker .now))) ∙ c .enum-told .given .1))
+    let args = c .before .before .before .before .before .before .before .before .before .before .before .args in
+    let the-number = c .before .before .before .before .before .before .number in
+    let loop = c .before .before .before .before .before .loop in
+    let loop-test = c .before .before .before .before .loop-test in
+    let the-number2 = c .before .before .before .number2 in
+    let the-converged-with = c .before .before .converged-with in (
+      omega arith,
+      loop .inv .1 ∙ first-on (at (args .n) (args .plants .now) (args .logs .now) (args .values .now) (args .core .now)
+          (args .tracker .now)) (loop .k) (length (args .core .now)) (loop-test .taken)
+          ((same (args .n) (args .plants .now) (args .logs .now) (args .values .now) (args .core .now) (args .tracker .now) (loop .k)
+          (the-number .result) (the-number2 .result) (the-converged-with .result) (the-number .ensures) (the-number2 .ensures)
+          (the-converged-with .ensures (args .tracker .now))) ∙ c .enum-told .given .1),
+    )
 
 returns-2 : tie.Need-returns-2 Inv-loop μ-loop
 unfolding converged
 returns-2 c =
-    sym (c .before .loop .inv .1 ∙ first-end (at (c .before .before .before .before .before .before .before .args .n) (c .before .before .before .before .before .before .before .args .plants .now) (c .before .before .before .before .before .before .before .args .logs .now) (c .before .before .before .before .before .before .before .args .values .now) (c .before .before .before .before .before .before .before .args .core .now) (c .before .before .before .before .before .before .before .args .tracker .now)) (c .before .loop .k) (length (c .before .before .before .before .before .before .before .args .core .now)) (c .loop-test .left))
+    let args = c .before .before .before .before .before .before .before .args in
+    let loop = c .before .loop in
+    sym (loop .inv .1 ∙ first-end (at (args .n) (args .plants .now) (args .logs .now) (args .values .now) (args .core .now) (args .tracker .now))
+    (loop .k) (length (args .core .now)) (c .loop-test .left))
 
 pub convergence-spec : {M : Type 1} → statement M
 convergence-spec =

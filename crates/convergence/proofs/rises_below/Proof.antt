@@ -51,13 +51,16 @@ returns : tie.Need-returns Inv-loop μ-loop
 returns c =
     let a = c .before .before .before .before .before .args in
     let l = c .before .before .before .loop in
-    sym (l .inv .1 ∙ low (a .n) (l .least) (l .k) (a .core .now) (c .before .before .loop-test .taken) (omega (arith, c .before .number .ensures, c .if1 .taken)))
+    sym (l .inv .1 ∙ low (a .n) (l .least) (l .k) (a .core .now) (c .before .before .loop-test .taken)
+    (omega (arith, c .before .number .ensures, c .if1 .taken)))
 
 returns-2 : tie.Need-returns-2 Inv-loop μ-loop
 returns-2 c =
+    let the-number = c .before .before .number in
     let a = c .before .before .before .before .before .before .args in
     let l = c .before .before .before .before .loop in
-    sym (l .inv .1 ∙ high (a .n) (l .least) (l .k) (a .core .now) (c .before .before .before .loop-test .taken) (omega (arith, c .before .before .number .ensures)) (omega (arith, c .before .before .number .ensures)))
+    sym (l .inv .1 ∙ high (a .n) (l .least) (l .k) (a .core .now) (c .before .before .before .loop-test .taken) (omega (arith, the-number .ensures))
+    (omega (arith, the-number .ensures)))
 
 add-least : tie.Need-add-least Inv-loop μ-loop
 add-least c = omega arith

@@ -58,7 +58,8 @@ returns c =
     let a = c .before .before .before .before .before .before .args in
     let l = c .before .before .before .before .loop in
     c .broken .ensures
-    ∙ sym (l .inv .1 ∙ first-stop (compared (a .logs .now) (a .reference) (a .id)) (l .i) (a .size) (Broken Convergence (a .id) (l .i) 2) (c .before .before .before .loop-test .taken)
+    ∙ sym (l .inv .1 ∙ first-stop (compared (a .logs .now) (a .reference) (a .id)) (l .i) (a .size) (Broken Convergence (a .id) (l .i) 2)
+    (c .before .before .before .loop-test .taken)
     (rw (sym (c .before .before .same-entry .ensures) ∙ not-true _ (c .before .if1 .taken))) (broken-no-pass Convergence (a .id) (l .i) 2))
 
 add-i : tie.Need-add-i Inv-loop μ-loop

@@ -16,7 +16,8 @@ same-bits {w} a b f g e = sym (toZ-ofZ f) ∙ (ap (toZ w) e ∙ toZ-ofZ g)
 returns : tie.Need-returns
 unfolding sameValue
 returns c =
-    let s = c .before .args in sym (told-same (ℤ-discrete (s .a) (s .b)) (same-bits (s .a) (s .b) (c .before .fits .a) (c .before .fits .b) (c .if1 .taken)))
+    let fits = c .before .fits in
+    let s = c .before .args in sym (told-same (ℤ-discrete (s .a) (s .b)) (same-bits (s .a) (s .b) (fits .a) (fits .b) (c .if1 .taken)))
 
 returns-2 : tie.Need-returns-2
 unfolding sameValue

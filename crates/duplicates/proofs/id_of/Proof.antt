@@ -31,7 +31,9 @@ add-number : tie.Need-add-number
 add-number c = search needs
 
 number-requires : tie.Need-number-requires
-number-requires c κs = omega (arith, c .before .before .before .pre .0 .1 .words, c .before .before .before .pre .1 .0)
+number-requires c κs =
+    let pre = c .before .before .before .pre in
+    omega (arith, pre .0 .1 .words, pre .1 .0)
 
 add-result : tie.Need-add-result
 add-result c = search needs
@@ -47,46 +49,112 @@ add-result-3 c = search needs
 
 add-result-4 : tie.Need-add-result-4
 add-result-4 c =
-    omega (arith, within (c .before .before .before .before .before .args .n) (c .before .before .before .before .before .args .plants .now) (c .before .before .before .before .before .args .logs .now) (c .before .before .before .before .before .args .tracker .now) (c .before .before .before .before .before .pre .0 .0) (c .before .before .before .before .before .pre .0 .2) (c .before .before .before .before .before .args .r) (c .before .before .before .before .before .args .j) (c .before .before .before .before .before .pre .1 .0) (c .before .before .before .before .before .pre .1 .1), c .before .before .before .before .before .pre .0 .0 .few)
+    let args = c .before .before .before .before .before .args in
+    let pre = c .before .before .before .before .before .pre in
+    omega (
+      arith,
+      within (args .n) (args .plants .now) (args .logs .now) (args .tracker .now) (pre .0 .0) (pre .0 .2) (args .r) (args .j) (pre .1 .0)
+          (pre .1 .1),
+      pre .0 .0 .few,
+    )
 
 mul-result-2 : tie.Need-mul-result-2
 mul-result-2 c =
-    omega (arith, within (c .before .before .before .before .before .args .n) (c .before .before .before .before .before .args .plants .now) (c .before .before .before .before .before .args .logs .now) (c .before .before .before .before .before .args .tracker .now) (c .before .before .before .before .before .pre .0 .0) (c .before .before .before .before .before .pre .0 .2) (c .before .before .before .before .before .args .r) (c .before .before .before .before .before .args .j) (c .before .before .before .before .before .pre .1 .0) (c .before .before .before .before .before .pre .1 .1), c .before .before .before .before .before .pre .0 .0 .few)
+    let args = c .before .before .before .before .before .args in
+    let pre = c .before .before .before .before .before .pre in
+    omega (
+      arith,
+      within (args .n) (args .plants .now) (args .logs .now) (args .tracker .now) (pre .0 .0) (pre .0 .2) (args .r) (args .j) (pre .1 .0)
+          (pre .1 .1),
+      pre .0 .0 .few,
+    )
 
 shared-slice-read-result : tie.Need-shared-slice-read-result
 shared-slice-read-result c =
-    omega (arith, within (c .before .before .before .before .before .before .args .n) (c .before .before .before .before .before .before .args .plants .now) (c .before .before .before .before .before .before .args .logs .now) (c .before .before .before .before .before .before .args .tracker .now) (c .before .before .before .before .before .before .pre .0 .0) (c .before .before .before .before .before .before .pre .0 .2) (c .before .before .before .before .before .before .args .r) (c .before .before .before .before .before .before .args .j) (c .before .before .before .before .before .before .pre .1 .0) (c .before .before .before .before .before .before .pre .1 .1), c .before .before .before .before .before .before .pre .0 .1 .words, c .before .before .before .before .before .before .pre .1 .0)
+    let args = c .before .before .before .before .before .before .args in
+    let pre = c .before .before .before .before .before .before .pre in
+    omega (
+      arith,
+      within (args .n) (args .plants .now) (args .logs .now) (args .tracker .now) (pre .0 .0) (pre .0 .2) (args .r) (args .j) (pre .1 .0)
+          (pre .1 .1),
+      pre .0 .1 .words,
+      pre .1 .0,
+    )
 
 returns : tie.Need-returns
 returns c =
-    seen (c .before .before .before .before .before .before .args .n) (c .before .before .before .before .before .before .args .plants .now) (c .before .before .before .before .before .before .args .logs .now) (c .before .before .before .before .before .before .args .tracker .now) (c .before .before .before .before .before .before .pre .0 .0) (c .before .before .before .before .before .before .pre .0 .2) (c .before .before .before .before .before .before .args .r) (c .before .before .before .before .before .before .args .j) (c .before .before .before .before .before .before .pre .1 .0) (c .before .before .before .before .before .before .pre .1 .1) (omega (arith, c .before .before .number .ensures, c .before .if1 .taken))
+    let args = c .before .before .before .before .before .before .args in
+    let pre = c .before .before .before .before .before .before .pre in
+    seen (args .n) (args .plants .now) (args .logs .now) (args .tracker .now) (pre .0 .0) (pre .0 .2) (args .r) (args .j) (pre .1 .0) (pre .1 .1)
+    (omega (arith, c .before .before .number .ensures, c .before .if1 .taken))
 
 mul-result-3 : tie.Need-mul-result-3
 mul-result-3 c = search needs
 
 mul-result-4 : tie.Need-mul-result-4
 mul-result-4 c =
-    omega (arith, within (c .before .before .before .before .before .args .n) (c .before .before .before .before .before .args .plants .now) (c .before .before .before .before .before .args .logs .now) (c .before .before .before .before .before .args .tracker .now) (c .before .before .before .before .before .pre .0 .0) (c .before .before .before .before .before .pre .0 .2) (c .before .before .before .before .before .args .r) (c .before .before .before .before .before .args .j) (c .before .before .before .before .before .pre .1 .0) (c .before .before .before .before .before .pre .1 .1))
+    let args = c .before .before .before .before .before .args in
+    let pre = c .before .before .before .before .before .pre in
+    omega (
+      arith,
+      within (args .n) (args .plants .now) (args .logs .now) (args .tracker .now) (pre .0 .0) (pre .0 .2) (args .r) (args .j) (pre .1 .0)
+          (pre .1 .1),
+    )
 
 add-result-5 : tie.Need-add-result-5
 add-result-5 c =
-    omega (arith, within (c .before .before .before .before .before .args .n) (c .before .before .before .before .before .args .plants .now) (c .before .before .before .before .before .args .logs .now) (c .before .before .before .before .before .args .tracker .now) (c .before .before .before .before .before .pre .0 .0) (c .before .before .before .before .before .pre .0 .2) (c .before .before .before .before .before .args .r) (c .before .before .before .before .before .args .j) (c .before .before .before .before .before .pre .1 .0) (c .before .before .before .before .before .pre .1 .1), c .before .before .before .before .before .pre .0 .0 .few, c .before .before .before .before .before .pre .1 .0)
+    let args = c .before .before .before .before .before .args in
+    let pre = c .before .before .before .before .before .pre in
+    omega (
+      arith,
+      within (args .n) (args .plants .now) (args .logs .now) (args .tracker .now) (pre .0 .0) (pre .0 .2) (args .r) (args .j) (pre .1 .0)
+          (pre .1 .1),
+      pre .0 .0 .few,
+      pre .1 .0,
+    )
 
 add-result-6 : tie.Need-add-result-6
 add-result-6 c =
-    omega (arith, within (c .before .before .before .before .before .args .n) (c .before .before .before .before .before .args .plants .now) (c .before .before .before .before .before .args .logs .now) (c .before .before .before .before .before .args .tracker .now) (c .before .before .before .before .before .pre .0 .0) (c .before .before .before .before .before .pre .0 .2) (c .before .before .before .before .before .args .r) (c .before .before .before .before .before .args .j) (c .before .before .before .before .before .pre .1 .0) (c .before .before .before .before .before .pre .1 .1), c .before .before .before .before .before .pre .0 .0 .few, c .before .before .before .before .before .pre .1 .0)
+    let args = c .before .before .before .before .before .args in
+    let pre = c .before .before .before .before .before .pre in
+    omega (
+      arith,
+      within (args .n) (args .plants .now) (args .logs .now) (args .tracker .now) (pre .0 .0) (pre .0 .2) (args .r) (args .j) (pre .1 .0)
+          (pre .1 .1),
+      pre .0 .0 .few,
+      pre .1 .0,
+    )
 
 mul-result-5 : tie.Need-mul-result-5
 mul-result-5 c =
-    omega (arith, within (c .before .before .before .before .before .args .n) (c .before .before .before .before .before .args .plants .now) (c .before .before .before .before .before .args .logs .now) (c .before .before .before .before .before .args .tracker .now) (c .before .before .before .before .before .pre .0 .0) (c .before .before .before .before .before .pre .0 .2) (c .before .before .before .before .before .args .r) (c .before .before .before .before .before .args .j) (c .before .before .before .before .before .pre .1 .0) (c .before .before .before .before .before .pre .1 .1), c .before .before .before .before .before .pre .0 .0 .few, c .before .before .before .before .before .pre .1 .0)
+    let args = c .before .before .before .before .before .args in
+    let pre = c .before .before .before .before .before .pre in
+    omega (
+      arith,
+      within (args .n) (args .plants .now) (args .logs .now) (args .tracker .now) (pre .0 .0) (pre .0 .2) (args .r) (args .j) (pre .1 .0)
+          (pre .1 .1),
+      pre .0 .0 .few,
+      pre .1 .0,
+    )
 
 shared-slice-read-result-2 : tie.Need-shared-slice-read-result-2
 shared-slice-read-result-2 c =
-    omega (arith, within (c .before .before .before .before .before .before .args .n) (c .before .before .before .before .before .before .args .plants .now) (c .before .before .before .before .before .before .args .logs .now) (c .before .before .before .before .before .before .args .tracker .now) (c .before .before .before .before .before .before .pre .0 .0) (c .before .before .before .before .before .before .pre .0 .2) (c .before .before .before .before .before .before .args .r) (c .before .before .before .before .before .before .args .j) (c .before .before .before .before .before .before .pre .1 .0) (c .before .before .before .before .before .before .pre .1 .1), c .before .before .before .before .before .before .pre .0 .0 .logs, c .before .before .before .before .before .before .pre .1 .0)
+    let args = c .before .before .before .before .before .before .args in
+    let pre = c .before .before .before .before .before .before .pre in
+    omega (
+      arith,
+      within (args .n) (args .plants .now) (args .logs .now) (args .tracker .now) (pre .0 .0) (pre .0 .2) (args .r) (args .j) (pre .1 .0)
+          (pre .1 .1),
+      pre .0 .0 .logs,
+      pre .1 .0,
+    )
 
 returns-2 : tie.Need-returns-2
 returns-2 c =
-    logged (c .before .before .before .before .before .before .args .n) (c .before .before .before .before .before .before .args .plants .now) (c .before .before .before .before .before .before .args .logs .now) (c .before .before .before .before .before .before .args .tracker .now) (c .before .before .before .before .before .before .pre .0 .0) (c .before .before .before .before .before .before .pre .0 .2) (c .before .before .before .before .before .before .args .r) (c .before .before .before .before .before .before .args .j) (c .before .before .before .before .before .before .pre .1 .0) (c .before .before .before .before .before .before .pre .1 .1) (omega (arith, c .before .before .number .ensures, c .before .if1 .left))
+    let args = c .before .before .before .before .before .before .args in
+    let pre = c .before .before .before .before .before .before .pre in
+    logged (args .n) (args .plants .now) (args .logs .now) (args .tracker .now) (pre .0 .0) (pre .0 .2) (args .r) (args .j) (pre .1 .0) (pre .1 .1)
+    (omega (arith, c .before .before .number .ensures, c .before .if1 .left))
 
 pub id-of-spec : {M : Type 1} → statement M
 id-of-spec =

@@ -49,27 +49,62 @@ abbrev μ-loop : tie.MeasureT-loop
 μ-loop n plants logs tracker r i id j₀ j = i - j
 
 mul-id : tie.Need-mul-id Inv-loop μ-loop
-mul-id c = omega (arith, c .before .before .before .pre .0 .0 .few, c .before .before .before .pre .1 .0)
+mul-id c =
+    let pre = c .before .before .before .pre in
+    omega (arith, pre .0 .0 .few, pre .1 .0)
 
 mul-id-2 : tie.Need-mul-id-2 Inv-loop μ-loop
 mul-id-2 c =
-    let a = c .before .before .before .args in omega (arith, within (a .n) (a .plants .now) (a .logs .now) (a .tracker .now) (c .before .before .before .pre .0 .0) (c .before .before .before .pre .0 .2) (a .r) (a .i) (c .before .before .before .pre .1 .0) (c .before .before .before .pre .1 .1))
+    let pre = c .before .before .before .pre in
+    let a = c .before .before .before .args in omega (
+      arith,
+      within (a .n) (a .plants .now) (a .logs .now) (a .tracker .now) (pre .0 .0) (pre .0 .2)
+          (a .r) (a .i) (pre .1 .0) (pre .1 .1),
+    )
 
 add-id : tie.Need-add-id Inv-loop μ-loop
 add-id c =
-    let a = c .before .before .before .args in omega (arith, within (a .n) (a .plants .now) (a .logs .now) (a .tracker .now) (c .before .before .before .pre .0 .0) (c .before .before .before .pre .0 .2) (a .r) (a .i) (c .before .before .before .pre .1 .0) (c .before .before .before .pre .1 .1), c .before .before .before .pre .0 .0 .few, c .before .before .before .pre .1 .0)
+    let pre = c .before .before .before .pre in
+    let a = c .before .before .before .args in omega (
+      arith,
+      within (a .n) (a .plants .now) (a .logs .now) (a .tracker .now) (pre .0 .0) (pre .0 .2)
+          (a .r) (a .i) (pre .1 .0) (pre .1 .1),
+      pre .0 .0 .few,
+      pre .1 .0,
+    )
 
 add-id-2 : tie.Need-add-id-2 Inv-loop μ-loop
 add-id-2 c =
-    let a = c .before .before .before .args in omega (arith, within (a .n) (a .plants .now) (a .logs .now) (a .tracker .now) (c .before .before .before .pre .0 .0) (c .before .before .before .pre .0 .2) (a .r) (a .i) (c .before .before .before .pre .1 .0) (c .before .before .before .pre .1 .1), c .before .before .before .pre .0 .0 .few, c .before .before .before .pre .1 .0)
+    let pre = c .before .before .before .pre in
+    let a = c .before .before .before .args in omega (
+      arith,
+      within (a .n) (a .plants .now) (a .logs .now) (a .tracker .now) (pre .0 .0) (pre .0 .2)
+          (a .r) (a .i) (pre .1 .0) (pre .1 .1),
+      pre .0 .0 .few,
+      pre .1 .0,
+    )
 
 mul-id-3 : tie.Need-mul-id-3 Inv-loop μ-loop
 mul-id-3 c =
-    let a = c .before .before .before .args in omega (arith, within (a .n) (a .plants .now) (a .logs .now) (a .tracker .now) (c .before .before .before .pre .0 .0) (c .before .before .before .pre .0 .2) (a .r) (a .i) (c .before .before .before .pre .1 .0) (c .before .before .before .pre .1 .1), c .before .before .before .pre .0 .0 .few, c .before .before .before .pre .1 .0)
+    let pre = c .before .before .before .pre in
+    let a = c .before .before .before .args in omega (
+      arith,
+      within (a .n) (a .plants .now) (a .logs .now) (a .tracker .now) (pre .0 .0) (pre .0 .2)
+          (a .r) (a .i) (pre .1 .0) (pre .1 .1),
+      pre .0 .0 .few,
+      pre .1 .0,
+    )
 
 shared-slice-read-id : tie.Need-shared-slice-read-id Inv-loop μ-loop
 shared-slice-read-id c =
-    let a = c .before .before .before .before .args in omega (arith, within (a .n) (a .plants .now) (a .logs .now) (a .tracker .now) (c .before .before .before .before .pre .0 .0) (c .before .before .before .before .pre .0 .2) (a .r) (a .i) (c .before .before .before .before .pre .1 .0) (c .before .before .before .before .pre .1 .1), c .before .before .before .before .pre .0 .0 .logs, c .before .before .before .before .pre .1 .0)
+    let pre = c .before .before .before .before .pre in
+    let a = c .before .before .before .before .args in omega (
+      arith,
+      within (a .n) (a .plants .now) (a .logs .now) (a .tracker .now) (pre .0 .0)
+          (pre .0 .2) (a .r) (a .i) (pre .1 .0) (pre .1 .1),
+      pre .0 .0 .logs,
+      pre .1 .0,
+    )
 
 loop-holds : tie.Need-loop-holds Inv-loop μ-loop
 loop-holds c =
@@ -77,33 +112,50 @@ loop-holds c =
 
 id-of-requires : tie.Need-id-of-requires Inv-loop μ-loop
 id-of-requires c κs =
-    (c .before .before .before .before .before .before .pre .0, (c .before .before .before .before .before .before .pre .1 .0, omega (arith, c .before .before .before .before .before .before .pre .1 .1, c .loop-test .taken)))
+    let pre = c .before .before .before .before .before .before .pre in
+    (pre .0, (pre .1 .0, omega (arith, pre .1 .1, c .loop-test .taken)))
 
 returns : tie.Need-returns Inv-loop μ-loop
 returns c =
+    let pre = c .before .before .before .before .before .before .before .before .pre in
+    let loop = c .before .before .before .loop in
     let a = c .before .before .before .before .before .before .before .before .args in
-    found (a .n) (a .plants .now) (a .logs .now) (a .tracker .now) (c .before .before .before .before .before .before .before .before .pre .0 .0) (c .before .before .before .before .before .before .before .before .pre .0 .2) (a .r) (a .i) (c .before .before .before .before .before .before .before .before .pre .1 .0) (c .before .before .before .before .before .before .before .before .pre .1 .1) (c .before .before .before .loop .j) (c .before .before .loop-test .taken)
-    (equal (a .n) (a .plants .now) (a .logs .now) (a .tracker .now) (c .before .before .before .before .before .before .before .before .pre .0 .0) (c .before .before .before .before .before .before .before .before .pre .0 .2) (a .r) (a .i) (c .before .before .before .before .before .before .before .before .pre .1 .0) (c .before .before .before .before .before .before .before .before .pre .1 .1) (c .before .before .before .loop .j) _ (c .before .id-of .ensures) (c .if1 .taken))
+    found (a .n) (a .plants .now) (a .logs .now) (a .tracker .now) (pre .0 .0) (pre .0 .2) (a .r) (a .i) (pre .1 .0) (pre .1 .1) (loop .j)
+    (c .before .before .loop-test .taken)
+    (equal (a .n) (a .plants .now) (a .logs .now) (a .tracker .now) (pre .0 .0) (pre .0 .2) (a .r) (a .i) (pre .1 .0) (pre .1 .1) (loop .j) _
+    (c .before .id-of .ensures) (c .if1 .taken))
 
 add-j : tie.Need-add-j Inv-loop μ-loop
 add-j c =
-    let a = c .before .before .before .before .before .before .before .before .args in omega (arith, c .before .before .loop-test .taken, within (a .n) (a .plants .now) (a .logs .now) (a .tracker .now) (c .before .before .before .before .before .before .before .before .pre .0 .0) (c .before .before .before .before .before .before .before .before .pre .0 .2) (a .r) (a .i) (c .before .before .before .before .before .before .before .before .pre .1 .0) (c .before .before .before .before .before .before .before .before .pre .1 .1))
+    let pre = c .before .before .before .before .before .before .before .before .pre in
+    let a = c .before .before .before .before .before .before .before .before .args in omega (
+      arith,
+      c .before .before .loop-test .taken,
+      within (a .n) (a .plants .now) (a .logs .now) (a .tracker .now) (pre .0 .0) (pre .0 .2) (a .r)
+          (a .i) (pre .1 .0) (pre .1 .1),
+    )
 
 loop-less : tie.Need-loop-less Inv-loop μ-loop
 loop-less c = omega arith
 
 loop-again : tie.Need-loop-again Inv-loop μ-loop
 loop-again c =
+    let pre = c .before .before .before .before .before .before .before .before .pre in
+    let loop = c .before .before .before .loop in
     let a = c .before .before .before .before .before .before .before .before .args in (
       omega arith,
-      all-more (c .before .before .before .loop .j) (differs (a .n) (a .plants .now) (a .logs .now) (a .tracker .now) (a .r) (a .i)) (c .before .before .before .loop .inv .1)
-          (unequal (a .n) (a .plants .now) (a .logs .now) (a .tracker .now) (c .before .before .before .before .before .before .before .before .pre .0 .0) (c .before .before .before .before .before .before .before .before .pre .0 .2) (a .r) (a .i) (c .before .before .before .before .before .before .before .before .pre .1 .0) (c .before .before .before .before .before .before .before .before .pre .1 .1) (c .before .before .before .loop .j) _ (c .before .id-of .ensures) (c .if1 .left)),
+      all-more (loop .j) (differs (a .n) (a .plants .now) (a .logs .now) (a .tracker .now) (a .r) (a .i)) (loop .inv .1)
+          (unequal (a .n) (a .plants .now) (a .logs .now) (a .tracker .now) (pre .0 .0) (pre .0 .2) (a .r) (a .i) (pre .1 .0) (pre .1 .1) (loop .j) _
+          (c .before .id-of .ensures) (c .if1 .left)),
     )
 
 returns-2 : tie.Need-returns-2 Inv-loop μ-loop
 returns-2 c =
+    let pre = c .before .before .before .before .before .before .pre in
+    let loop = c .before .loop in
     let a = c .before .before .before .before .before .before .args in
-    missed (a .n) (a .plants .now) (a .logs .now) (a .tracker .now) (c .before .before .before .before .before .before .pre .0 .0) (c .before .before .before .before .before .before .pre .0 .2) (a .r) (a .i) (c .before .before .before .before .before .before .pre .1 .0) (c .before .before .before .before .before .before .pre .1 .1) (c .before .loop .j) (omega arith) (c .before .loop .inv .1)
+    missed (a .n) (a .plants .now) (a .logs .now) (a .tracker .now) (pre .0 .0) (pre .0 .2) (a .r) (a .i) (pre .1 .0) (pre .1 .1) (loop .j)
+    (omega arith) (loop .inv .1)
 
 pub unseen-spec : {M : Type 1} → statement M
 unseen-spec =

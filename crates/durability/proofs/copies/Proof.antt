@@ -23,23 +23,30 @@ abbrev μ-loop : tie.MeasureT-loop
 
 loop-holds : tie.Need-loop-holds Inv-loop μ-loop
 loop-holds c =
-    (omega arith, omega arith, λ t. sym (count-none (has (c .before .before .args .n) (c .before .before .args .plants .now) (c .before .before .args .logs .now) t (c .before .before .args .r) (c .before .before .args .i))))
+    let args = c .before .before .args in
+    (omega arith, omega arith, λ t. sym (count-none (has (args .n) (args .plants .now) (args .logs .now) t (args .r) (args .i))))
 
 holds-copy-requires : tie.Need-holds-copy-requires Inv-loop μ-loop
 holds-copy-requires c κs =
-    (c .before .before .before .before .pre .0, c .before .before .before .before .pre .1, c .before .before .before .before .pre .2, c .loop-test .taken)
+    let pre = c .before .before .before .before .pre in
+    (pre .0, pre .1, pre .2, c .loop-test .taken)
 
 add-count : tie.Need-add-count Inv-loop μ-loop
-add-count c = omega (arith, c .before .before .before .before .before .before .pre .0 .few)
+add-count c =
+    let pre = c .before .before .before .before .before .before .pre in
+    omega (arith, pre .0 .few)
 
 add-q : tie.Need-add-q Inv-loop μ-loop
-add-q c = omega (arith, c .before .before .before .before .before .before .pre .0 .few)
+add-q c =
+    let pre = c .before .before .before .before .before .before .pre in
+    omega (arith, pre .0 .few)
 
 loop-less : tie.Need-loop-less Inv-loop μ-loop
 loop-less c = omega arith
 
 loop-again : tie.Need-loop-again Inv-loop μ-loop
 loop-again c =
+    let the-holds-copy = c .before .holds-copy in
     let a = c .before .before .before .before .before .before .args in
     let i = c .before .before .before .loop in
     ⊎-elim
@@ -47,13 +54,15 @@ loop-again c =
       omega arith,
       omega (arith, w .1),
       λ t.
-          w .1 ∙ (ap (λ (x : ℕ). x + 1) (i .inv .2 t) ∙ sym (count-in (i .q) (has (a .n) (a .plants .now) (a .logs .now) t (a .r) (a .i)) (sym (c .before .holds-copy .ensures t) ∙ w .0 .taken))),
+          w .1 ∙ (ap (λ (x : ℕ). x + 1) (i .inv .2 t) ∙ sym (count-in (i .q) (has (a .n) (a .plants .now) (a .logs .now) t (a .r) (a .i))
+          (sym (the-holds-copy .ensures t) ∙ w .0 .taken))),
     ))
     (λ w. (
       omega arith,
       omega (arith, w .1),
       λ t.
-          w .1 ∙ (i .inv .2 t ∙ sym (count-out (i .q) (has (a .n) (a .plants .now) (a .logs .now) t (a .r) (a .i)) (sym (c .before .holds-copy .ensures t) ∙ w .0 .left))),
+          w .1 ∙ (i .inv .2 t ∙ sym (count-out (i .q) (has (a .n) (a .plants .now) (a .logs .now) t (a .r) (a .i))
+          (sym (the-holds-copy .ensures t) ∙ w .0 .left))),
     ))
     (c .if1 .came)
 

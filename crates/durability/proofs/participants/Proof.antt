@@ -64,7 +64,8 @@ loop-again c =
       omega arith,
       omega (arith, w .1),
       λ l t.
-          w .1 ∙ (ap (λ (x : ℕ). x + 1) (i .inv .2 l t) ∙ sym (count-in (i .q) (takes (a .n) (a .plants .now) l t) (is-in (a .n) (a .plants .now) l t (i .q) h (w .0 .taken)))),
+          w .1 ∙ (ap (λ (x : ℕ). x + 1) (i .inv .2 l t) ∙ sym (count-in (i .q) (takes (a .n) (a .plants .now) l t)
+          (is-in (a .n) (a .plants .now) l t (i .q) h (w .0 .taken)))),
     ))
     (λ w. (
       omega arith,

@@ -50,44 +50,97 @@ plant-count-requires c κs = search needs
 
 returns : tie.Need-returns
 returns c =
-    miscounted (c .before .before .before .before .before .before .args .n) (c .before .before .before .before .before .before .args .plants .now) (c .before .before .before .before .before .before .args .logs .now) (c .before .before .before .before .before .before .args .values .now) (c .before .before .before .before .before .before .args .core .now) (c .before .before .before .before .before .before .args .tracker .now) (sym (c .before .plant-count .ensures) ∙ not-true _ (c .if1 .taken))
+    let args = c .before .before .before .before .before .before .args in
+    miscounted (args .n) (args .plants .now) (args .logs .now) (args .values .now) (args .core .now) (args .tracker .now)
+    (sym (c .before .plant-count .ensures) ∙ not-true _ (c .if1 .taken))
 
 snapshot-fits-requires : tie.Need-snapshot-fits-requires
 snapshot-fits-requires c κs =
-    count-known (c .before .before .before .before .before .before .args .n) (sym (c .before .plant-count .ensures) ∙ not-false _ (c .if1 .left)) .1
+    let args = c .before .before .before .before .before .before .args in
+    count-known (args .n) (sym (c .before .plant-count .ensures) ∙ not-false _ (c .if1 .left)) .1
 
 returns-2 : tie.Need-returns-2
 returns-2 c =
-    unfit (c .before .before .before .before .before .before .before .before .args .n) (c .before .before .before .before .before .before .before .before .args .plants .now) (c .before .before .before .before .before .before .before .before .args .logs .now) (c .before .before .before .before .before .before .before .before .args .values .now) (c .before .before .before .before .before .before .before .before .args .core .now) (c .before .before .before .before .before .before .before .before .args .tracker .now) (sym (c .before .before .before .plant-count .ensures) ∙ not-false _ (c .before .before .if1 .left)) (sym (c .before .snapshot-fits .ensures) ∙ not-true _ (c .if2 .taken))
+    let args = c .before .before .before .before .before .before .before .before .args in
+    unfit (args .n) (args .plants .now) (args .logs .now) (args .values .now) (args .core .now) (args .tracker .now)
+    (sym (c .before .before .before .plant-count .ensures) ∙ not-false _ (c .before .before .if1 .left))
+    (sym (c .before .snapshot-fits .ensures) ∙ not-true _ (c .if2 .taken))
 
 returns-3 : tie.Need-returns-3
 returns-3 c =
-    unvalued (c .before .before .before .before .before .before .before .before .before .args .n) (c .before .before .before .before .before .before .before .before .before .args .plants .now) (c .before .before .before .before .before .before .before .before .before .args .logs .now) (c .before .before .before .before .before .before .before .before .before .args .values .now) (c .before .before .before .before .before .before .before .before .before .args .core .now) (c .before .before .before .before .before .before .before .before .before .args .tracker .now) (sym (c .before .before .before .before .plant-count .ensures) ∙ not-false _ (c .before .before .before .if1 .left)) (sym (c .before .before .snapshot-fits .ensures) ∙ not-false _ (c .before .if2 .left)) (c .if3 .taken)
+    let args = c .before .before .before .before .before .before .before .before .before .args in
+    let the-plant-count = c .before .before .before .before .plant-count in
+    unvalued (args .n) (args .plants .now) (args .logs .now) (args .values .now) (args .core .now) (args .tracker .now)
+    (sym (the-plant-count .ensures) ∙ not-false _ (c .before .before .before .if1 .left))
+    (sym (c .before .before .snapshot-fits .ensures) ∙ not-false _ (c .before .if2 .left)) (c .if3 .taken)
 
 core-fits-requires : tie.Need-core-fits-requires
 core-fits-requires c κs =
-    count-known (c .before .before .before .before .before .before .before .before .before .args .n) (sym (c .before .before .before .before .plant-count .ensures) ∙ not-false _ (c .before .before .before .if1 .left)) .1
+    let args = c .before .before .before .before .before .before .before .before .before .args in
+    let the-plant-count = c .before .before .before .before .plant-count in
+    count-known (args .n) (sym (the-plant-count .ensures) ∙ not-false _ (c .before .before .before .if1 .left)) .1
 
 returns-4 : tie.Need-returns-4
 returns-4 c =
-    no-core (c .before .before .before .before .before .before .before .before .before .before .before .args .n) (c .before .before .before .before .before .before .before .before .before .before .before .args .plants .now) (c .before .before .before .before .before .before .before .before .before .before .before .args .logs .now) (c .before .before .before .before .before .before .before .before .before .before .before .args .values .now) (c .before .before .before .before .before .before .before .before .before .before .before .args .core .now) (c .before .before .before .before .before .before .before .before .before .before .before .args .tracker .now) (sym (c .before .before .before .before .before .before .plant-count .ensures) ∙ not-false _ (c .before .before .before .before .before .if1 .left)) (sym (c .before .before .before .before .snapshot-fits .ensures) ∙ not-false _ (c .before .before .before .if2 .left)) (c .before .before .if3 .left) (sym (c .before .core-fits .ensures) ∙ not-true _ (c .if4 .taken))
+    let args = c .before .before .before .before .before .before .before .before .before .before .before .args in
+    let the-plant-count = c .before .before .before .before .before .before .plant-count in
+    let if1 = c .before .before .before .before .before .if1 in
+    let the-snapshot-fits = c .before .before .before .before .snapshot-fits in
+    no-core (args .n) (args .plants .now) (args .logs .now) (args .values .now) (args .core .now) (args .tracker .now)
+    (sym (the-plant-count .ensures) ∙ not-false _ (if1 .left)) (sym (the-snapshot-fits .ensures) ∙ not-false _
+    (c .before .before .before .if2 .left)) (c .before .before .if3 .left) (sym (c .before .core-fits .ensures) ∙ not-true _ (c .if4 .taken))
 
 tracker-fits-requires : tie.Need-tracker-fits-requires
 tracker-fits-requires c κs =
-    count-known (c .before .before .before .before .before .before .before .before .before .before .before .args .n) (sym (c .before .before .before .before .before .before .plant-count .ensures) ∙ not-false _ (c .before .before .before .before .before .if1 .left)) .1
+    let args = c .before .before .before .before .before .before .before .before .before .before .before .args in
+    let the-plant-count = c .before .before .before .before .before .before .plant-count in
+    let if1 = c .before .before .before .before .before .if1 in
+    count-known (args .n) (sym (the-plant-count .ensures) ∙ not-false _ (if1 .left)) .1
 
 returns-5 : tie.Need-returns-5
 returns-5 c =
-    untracked (c .before .before .before .before .before .before .before .before .before .before .before .before .before .args .n) (c .before .before .before .before .before .before .before .before .before .before .before .before .before .args .plants .now) (c .before .before .before .before .before .before .before .before .before .before .before .before .before .args .logs .now) (c .before .before .before .before .before .before .before .before .before .before .before .before .before .args .values .now) (c .before .before .before .before .before .before .before .before .before .before .before .before .before .args .core .now) (c .before .before .before .before .before .before .before .before .before .before .before .before .before .args .tracker .now) (sym (c .before .before .before .before .before .before .before .before .plant-count .ensures) ∙ not-false _ (c .before .before .before .before .before .before .before .if1 .left)) (sym (c .before .before .before .before .before .before .snapshot-fits .ensures) ∙ not-false _ (c .before .before .before .before .before .if2 .left)) (c .before .before .before .before .if3 .left) (sym (c .before .before .before .core-fits .ensures) ∙ not-false _ (c .before .before .if4 .left)) (sym (c .before .tracker-fits .ensures) ∙ not-true _ (c .if5 .taken))
+    let args = c .before .before .before .before .before .before .before .before .before .before .before .before .before .args in
+    let the-plant-count = c .before .before .before .before .before .before .before .before .plant-count in
+    let if1 = c .before .before .before .before .before .before .before .if1 in
+    let the-snapshot-fits = c .before .before .before .before .before .before .snapshot-fits in
+    let if2 = c .before .before .before .before .before .if2 in
+    let if3 = c .before .before .before .before .if3 in
+    untracked (args .n) (args .plants .now) (args .logs .now) (args .values .now) (args .core .now) (args .tracker .now)
+    (sym (the-plant-count .ensures) ∙ not-false _ (if1 .left)) (sym (the-snapshot-fits .ensures) ∙ not-false _ (if2 .left)) (if3 .left)
+    (sym (c .before .before .before .core-fits .ensures) ∙ not-false _ (c .before .before .if4 .left))
+    (sym (c .before .tracker-fits .ensures) ∙ not-true _ (c .if5 .taken))
 
 convergence-requires : tie.Need-convergence-requires
 convergence-requires c κs =
-    let k = core-known (c .before .before .before .before .before .before .before .before .before .before .before .before .before .args .n) (c .before .before .before .before .before .before .before .before .before .before .before .before .before .args .core .now) (sym (c .before .before .before .core-fits .ensures) ∙ not-false _ (c .before .before .if4 .left)) in
-    ((snapshot-known (c .before .before .before .before .before .before .before .before .before .before .before .before .before .args .n) (c .before .before .before .before .before .before .before .before .before .before .before .before .before .args .plants .now) (c .before .before .before .before .before .before .before .before .before .before .before .before .before .args .logs .now) (sym (c .before .before .before .before .before .before .before .before .plant-count .ensures) ∙ not-false _ (c .before .before .before .before .before .before .before .if1 .left)) (sym (c .before .before .before .before .before .before .snapshot-fits .ensures) ∙ not-false _ (c .before .before .before .before .before .if2 .left)), (c .before .before .before .before .if3 .left), k .0), k .1)
+    let args = c .before .before .before .before .before .before .before .before .before .before .before .before .before .args in
+    let the-plant-count = c .before .before .before .before .before .before .before .before .plant-count in
+    let if1 = c .before .before .before .before .before .before .before .if1 in
+    let the-snapshot-fits = c .before .before .before .before .before .before .snapshot-fits in
+    let if2 = c .before .before .before .before .before .if2 in
+    let if3 = c .before .before .before .before .if3 in
+    let k = core-known (args .n) (args .core .now) (sym (c .before .before .before .core-fits .ensures) ∙ not-false _ (c .before .before .if4 .left)) in (
+      (
+        snapshot-known (args .n) (args .plants .now) (args .logs .now) (sym (the-plant-count .ensures) ∙ not-false _ (if1 .left))
+            (sym (the-snapshot-fits .ensures) ∙ not-false _ (if2 .left)),
+        (if3 .left),
+        k .0,
+      ),
+      k .1,
+    )
 
 returns-6 : tie.Need-returns-6
 returns-6 c =
-    c .convergence .ensures ∙ taken (c .before .before .before .before .before .before .before .before .before .before .before .before .before .before .args .n) (c .before .before .before .before .before .before .before .before .before .before .before .before .before .before .args .plants .now) (c .before .before .before .before .before .before .before .before .before .before .before .before .before .before .args .logs .now) (c .before .before .before .before .before .before .before .before .before .before .before .before .before .before .args .values .now) (c .before .before .before .before .before .before .before .before .before .before .before .before .before .before .args .core .now) (c .before .before .before .before .before .before .before .before .before .before .before .before .before .before .args .tracker .now) (sym (c .before .before .before .before .before .before .before .before .before .plant-count .ensures) ∙ not-false _ (c .before .before .before .before .before .before .before .before .if1 .left)) (sym (c .before .before .before .before .before .before .before .snapshot-fits .ensures) ∙ not-false _ (c .before .before .before .before .before .before .if2 .left)) (c .before .before .before .before .before .if3 .left) (sym (c .before .before .before .before .core-fits .ensures) ∙ not-false _ (c .before .before .before .if4 .left)) (sym (c .before .before .tracker-fits .ensures) ∙ not-false _ (c .before .if5 .left))
+    let args = c .before .before .before .before .before .before .before .before .before .before .before .before .before .before .args in
+    let the-plant-count = c .before .before .before .before .before .before .before .before .before .plant-count in
+    let if1 = c .before .before .before .before .before .before .before .before .if1 in
+    let the-snapshot-fits = c .before .before .before .before .before .before .before .snapshot-fits in
+    let if2 = c .before .before .before .before .before .before .if2 in
+    let if3 = c .before .before .before .before .before .if3 in
+    let the-core-fits = c .before .before .before .before .core-fits in
+    c .convergence .ensures ∙ taken (args .n) (args .plants .now) (args .logs .now) (args .values .now) (args .core .now) (args .tracker .now)
+    (sym (the-plant-count .ensures) ∙ not-false _ (if1 .left)) (sym (the-snapshot-fits .ensures) ∙ not-false _ (if2 .left)) (if3 .left)
+    (sym (the-core-fits .ensures) ∙ not-false _ (c .before .before .before .if4 .left))
+    (sym (c .before .before .tracker-fits .ensures) ∙ not-false _ (c .before .if5 .left))
 
 pub end-spec : {M : Type 1} → statement M
 end-spec =

@@ -25,7 +25,9 @@ enum-told-4 c = search needs
 
 copies-requires : tie.Need-copies-requires
 copies-requires c κs =
-    (c .before .before .before .before .before .pre .0 .0, c .before .before .before .before .before .pre .1 .1 .0, omega (arith, c .before .before .before .before .before .pre .1 .1 .1, c .before .before .before .before .before .pre .0 .2 .within (c .before .before .before .before .before .args .r) (c .before .before .before .before .before .pre .1 .1 .0)))
+    let args = c .before .before .before .before .before .args in
+    let pre = c .before .before .before .before .before .pre in
+    (pre .0 .0, pre .1 .1 .0, omega (arith, pre .1 .1 .1, pre .0 .2 .within (args .r) (pre .1 .1 .0)))
 
 enum-told-5 : tie.Need-enum-told-5
 enum-told-5 c = search needs
@@ -42,9 +44,10 @@ returns-3 c = let e = c .before .enum-told3 .given .1 in rw e (c .unseen .ensure
 returns-4 : tie.Need-returns-4
 unfolding durable
 returns-4 c =
+    let pre = c .before .before .before .before .before .before .pre in
     let a = c .before .before .before .before .before .before .args in
     let e = c .before .enum-told4 .given .1 in
-    rw (e, c .before .before .before .before .before .before .pre .1 .0 (a .logs .now) (a .tracker .now), c .copies .ensures (a .tracker .now))
+    rw (e, pre .1 .0 (a .logs .now) (a .tracker .now), c .copies .ensures (a .tracker .now))
 
 returns-5 : tie.Need-returns-5
 returns-5 c = search needs

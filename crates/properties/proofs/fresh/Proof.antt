@@ -39,7 +39,8 @@ plant-count-requires c κs = search needs
 
 returns : tie.Need-returns
 returns c =
-    miscounted (c .before .before .before .args .n) (c .before .before .before .args .tracker .now) (sym (c .before .plant-count .ensures) ∙ not-true _ (c .if1 .taken))
+    let args = c .before .before .before .args in
+    miscounted (args .n) (args .tracker .now) (sym (c .before .plant-count .ensures) ∙ not-true _ (c .if1 .taken))
 
 tracker-words-requires : tie.Need-tracker-words-requires
 tracker-words-requires c κs =
@@ -47,7 +48,9 @@ tracker-words-requires c κs =
 
 returns-2 : tie.Need-returns-2
 returns-2 c =
-    other-length (c .before .before .before .before .before .args .n) (c .before .before .before .before .before .args .tracker .now) (sym (c .before .before .before .plant-count .ensures) ∙ not-false _ (c .before .before .if1 .left)) (λ e. c .if2 .taken (e ∙ sym (c .before .tracker-words .ensures)))
+    let args = c .before .before .before .before .before .args in
+    other-length (args .n) (args .tracker .now) (sym (c .before .before .before .plant-count .ensures) ∙ not-false _ (c .before .before .if1 .left))
+    (λ e. c .if2 .taken (e ∙ sym (c .before .tracker-words .ensures)))
 
 clear-requires : tie.Need-clear-requires
 clear-requires c κs = search needs
@@ -60,7 +63,14 @@ same-length c = search needs
 
 returns-3 : tie.Need-returns-3
 returns-3 c =
-    cleared (c .before .before .before .before .before .before .before .before .before .args .n) (c .before .before .before .before .before .before .before .before .before .args .tracker .now) (c .before .before .clear .last .0) (sym (c .before .before .before .before .before .before .before .plant-count .ensures) ∙ not-false _ (c .before .before .before .before .before .before .if1 .left)) (c .before .before .before .before .if2 .left ∙ c .before .before .before .before .before .tracker-words .ensures) (c .before .before .clear .ensures)
+    let args = c .before .before .before .before .before .before .before .before .before .args in
+    let the-plant-count = c .before .before .before .before .before .before .before .plant-count in
+    let if1 = c .before .before .before .before .before .before .if1 in
+    let the-tracker-words = c .before .before .before .before .before .tracker-words in
+    let if2 = c .before .before .before .before .if2 in
+    let the-clear = c .before .before .clear in
+    cleared (args .n) (args .tracker .now) (the-clear .last .0) (sym (the-plant-count .ensures) ∙ not-false _ (if1 .left))
+    (if2 .left ∙ the-tracker-words .ensures) (the-clear .ensures)
 
 pub fresh-spec : {M : Type 1} → statement M
 fresh-spec =

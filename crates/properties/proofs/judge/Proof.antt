@@ -18,15 +18,22 @@ enum-told c = search needs
 returns : tie.Need-returns
 unfolding judged
 returns c =
+    let the-commit-numbers = c .before .commit-numbers in
     let a = c .before .before .before .before .before .args in
     let k = clusterIn (a .n) (a .plants .now) (a .logs .now) (a .tracker .now) in
-    c .before .commit-numbers .ensures (a .logs .now)
-    ∙ sym (then-stop (commitNumbers k) (judgedEntries k) (λ e. no-pass (c .before .commit-numbers .result) (c .match .keys2) (c .before .commit-numbers .ensures (a .logs .now) ∙ e)))
+    the-commit-numbers .ensures (a .logs .now)
+    ∙ sym (then-stop (commitNumbers k) (judgedEntries k) (λ e. no-pass (the-commit-numbers .result) (c .match .keys2)
+    (the-commit-numbers .ensures (a .logs .now) ∙ e)))
 
 judge-entries-requires : tie.Need-judge-entries-requires
 judge-entries-requires c κs =
-    let a = c .before .before .before .before .before .before .args in
-    (c .before .before .before .before .before .before .pre .0, c .before .before .before .before .before .before .pre .1, forward-known (a .n) (a .plants .now) (a .logs .now) (a .tracker .now) (sym (c .before .before .commit-numbers .ensures (a .logs .now)) ∙ c .enum-told .given .1))
+    let pre = c .before .before .before .before .before .before .pre in
+    let a = c .before .before .before .before .before .before .args in (
+      pre .0,
+      pre .1,
+      forward-known (a .n) (a .plants .now) (a .logs .now) (a .tracker .now)
+          (sym (c .before .before .commit-numbers .ensures (a .logs .now)) ∙ c .enum-told .given .1),
+    )
 
 returns-2 : tie.Need-returns-2
 unfolding judged

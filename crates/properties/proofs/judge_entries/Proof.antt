@@ -20,9 +20,11 @@ enum-told c = search needs
 returns : tie.Need-returns
 unfolding judgedEntries
 returns c =
-    let k = (clusterIn (c .before .before .before .before .before .before .args .n) (c .before .before .before .before .before .before .args .plants .now) (c .before .before .before .before .before .before .args .logs .now) (c .before .before .before .before .before .before .args .tracker .now)) in
-    c .before .entries .ensures
-    ∙ sym (then-stop (overEntries PrefixAgreement k) _ (λ e. no-pass (c .before .entries .result) (c .match .keys2) (c .before .entries .ensures ∙ e)))
+    let args = c .before .before .before .before .before .before .args in
+    let the-entries = c .before .entries in
+    let k = (clusterIn (args .n) (args .plants .now) (args .logs .now) (args .tracker .now)) in
+    the-entries .ensures
+    ∙ sym (then-stop (overEntries PrefixAgreement k) _ (λ e. no-pass (the-entries .result) (c .match .keys2) (the-entries .ensures ∙ e)))
 
 entries-requires-2 : tie.Need-entries-requires-2
 entries-requires-2 c κs = search needs
@@ -33,10 +35,14 @@ enum-told-2 c = search needs
 returns-2 : tie.Need-returns-2
 unfolding judgedEntries
 returns-2 c =
-    let k = (clusterIn (c .before .before .before .before .before .before .before .before .before .args .n) (c .before .before .before .before .before .before .before .before .before .args .plants .now) (c .before .before .before .before .before .before .before .before .before .args .logs .now) (c .before .before .before .before .before .before .before .before .before .args .tracker .now)) in
-    c .before .entries2 .ensures
-    ∙ (sym (then-stop (overEntries NoDuplicates k) (overEntries Durability k) (λ e. no-pass (c .before .entries2 .result) (c .match2 .keys2) (c .before .entries2 .ensures ∙ e)))
-    ∙ rw (sym (c .before .before .before .before .entries .ensures) ∙ c .before .before .enum-told .given .1))
+    let args = c .before .before .before .before .before .before .before .before .before .args in
+    let the-entries = c .before .before .before .before .entries in
+    let the-entries2 = c .before .entries2 in
+    let k = (clusterIn (args .n) (args .plants .now) (args .logs .now) (args .tracker .now)) in
+    the-entries2 .ensures
+    ∙ (sym (then-stop (overEntries NoDuplicates k) (overEntries Durability k) (λ e. no-pass (the-entries2 .result) (c .match2 .keys2)
+    (the-entries2 .ensures ∙ e)))
+    ∙ rw (sym (the-entries .ensures) ∙ c .before .before .enum-told .given .1))
 
 entries-requires-3 : tie.Need-entries-requires-3
 entries-requires-3 c κs = search needs
@@ -44,7 +50,13 @@ entries-requires-3 c κs = search needs
 returns-3 : tie.Need-returns-3
 unfolding judgedEntries
 returns-3 c =
-    c .entries3 .ensures ∙ rw (sym (c .before .before .before .before .before .before .entries .ensures) ∙ c .before .before .before .before .enum-told .given .1, sym (c .before .before .before .entries2 .ensures) ∙ c .before .enum-told2 .given .1)
+    let the-entries = c .before .before .before .before .before .before .entries in
+    let the-enum-told = c .before .before .before .before .enum-told in
+    c .entries3 .ensures ∙ rw (
+      sym (the-entries .ensures) ∙ the-enum-told .given .1,
+      sym (c .before .before .before .entries2 .ensures) ∙
+          c .before .enum-told2 .given .1,
+    )
 
 pub judge-entries-spec : {M : Type 1} → statement M
 judge-entries-spec =

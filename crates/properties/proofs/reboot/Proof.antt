@@ -38,41 +38,59 @@ plant-count-requires c κs = search needs
 
 returns : tie.Need-returns
 returns c =
-    miscounted (c .before .before .before .args .n) (c .before .before .before .args .id) (c .before .before .before .args .tracker .now) (sym (c .before .plant-count .ensures) ∙ not-true _ (c .if1 .taken))
+    let args = c .before .before .before .args in
+    miscounted (args .n) (args .id) (args .tracker .now) (sym (c .before .plant-count .ensures) ∙ not-true _ (c .if1 .taken))
 
 returns-2 : tie.Need-returns-2
 returns-2 c =
-    unknown (c .before .before .before .before .args .n) (c .before .before .before .before .args .id) (c .before .before .before .before .args .tracker .now) (sym (c .before .before .plant-count .ensures) ∙ not-false _ (c .before .if1 .left)) (c .if2 .taken)
+    let args = c .before .before .before .before .args in
+    unknown (args .n) (args .id) (args .tracker .now) (sym (c .before .before .plant-count .ensures) ∙ not-false _ (c .before .if1 .left)) (c .if2 .taken)
 
 tracker-fits-requires : tie.Need-tracker-fits-requires
 tracker-fits-requires c κs =
-    count-known (c .before .before .before .before .before .args .n) (sym (c .before .before .before .plant-count .ensures) ∙ not-false _ (c .before .before .if1 .left)) .1
+    let args = c .before .before .before .before .before .args in
+    count-known (args .n) (sym (c .before .before .before .plant-count .ensures) ∙ not-false _ (c .before .before .if1 .left)) .1
 
 same-length : tie.Need-same-length
 same-length c = search needs
 
 returns-3 : tie.Need-returns-3
 returns-3 c =
-    untracked (c .before .before .before .before .before .before .before .args .n) (c .before .before .before .before .before .before .before .args .id) (c .before .before .before .before .before .before .before .args .tracker .now) (sym (c .before .before .before .before .before .plant-count .ensures) ∙ not-false _ (c .before .before .before .before .if1 .left)) (c .before .before .before .if2 .left) (sym (c .before .tracker-fits .ensures) ∙ not-true _ (c .if3 .taken))
+    let args = c .before .before .before .before .before .before .before .args in
+    let the-plant-count = c .before .before .before .before .before .plant-count in
+    let if1 = c .before .before .before .before .if1 in
+    untracked (args .n) (args .id) (args .tracker .now) (sym (the-plant-count .ensures) ∙ not-false _ (if1 .left))
+    (c .before .before .before .if2 .left) (sym (c .before .tracker-fits .ensures) ∙ not-true _ (c .if3 .taken))
 
 add-tracker : tie.Need-add-tracker
 add-tracker c =
-    omega (arith, count-known (c .before .before .before .before .before .before .before .args .n) (sym (c .before .before .before .before .before .plant-count .ensures) ∙ not-false _ (c .before .before .before .before .if1 .left)) .1)
+    let args = c .before .before .before .before .before .before .before .args in
+    let the-plant-count = c .before .before .before .before .before .plant-count in
+    let if1 = c .before .before .before .before .if1 in
+    omega (arith, count-known (args .n) (sym (the-plant-count .ensures) ∙ not-false _ (if1 .left)) .1)
 
 mul-tracker : tie.Need-mul-tracker
 mul-tracker c =
-    omega (arith, count-known (c .before .before .before .before .before .before .before .args .n) (sym (c .before .before .before .before .before .plant-count .ensures) ∙ not-false _ (c .before .before .before .before .if1 .left)) .1)
+    let args = c .before .before .before .before .before .before .before .args in
+    let the-plant-count = c .before .before .before .before .before .plant-count in
+    let if1 = c .before .before .before .before .if1 in
+    omega (arith, count-known (args .n) (sym (the-plant-count .ensures) ∙ not-false _ (if1 .left)) .1)
 
 slice-write-tracker : tie.Need-slice-write-tracker
 slice-write-tracker c =
-    omega (arith, tracker-known (c .before .before .before .before .before .before .before .args .n) (c .before .before .before .before .before .before .before .args .tracker .now) (sym (c .before .tracker-fits .ensures) ∙ not-false _ (c .if3 .left)) .words)
+    let args = c .before .before .before .before .before .before .before .args in
+    omega (arith, tracker-known (args .n) (args .tracker .now) (sym (c .before .tracker-fits .ensures) ∙ not-false _ (c .if3 .left)) .words)
 
 same-length-2 : tie.Need-same-length-2
 same-length-2 c = search needs
 
 returns-4 : tie.Need-returns-4
 returns-4 c =
-    restarted (c .before .before .before .before .before .before .before .args .n) (c .before .before .before .before .before .before .before .args .id) (c .before .before .before .before .before .before .before .args .tracker .now) (sym (c .before .before .before .before .before .plant-count .ensures) ∙ not-false _ (c .before .before .before .before .if1 .left)) (c .before .before .before .if2 .left) (sym (c .before .tracker-fits .ensures) ∙ not-false _ (c .if3 .left))
+    let args = c .before .before .before .before .before .before .before .args in
+    let the-plant-count = c .before .before .before .before .before .plant-count in
+    let if1 = c .before .before .before .before .if1 in
+    restarted (args .n) (args .id) (args .tracker .now) (sym (the-plant-count .ensures) ∙ not-false _ (if1 .left))
+    (c .before .before .before .if2 .left) (sym (c .before .tracker-fits .ensures) ∙ not-false _ (c .if3 .left))
 
 pub reboot-spec : {M : Type 1} → statement M
 reboot-spec =

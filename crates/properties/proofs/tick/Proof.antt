@@ -36,21 +36,34 @@ enum-told c = search needs
 
 remember-requires : tie.Need-remember-requires
 remember-requires c κs =
-    tick-known (c .before .before .before .before .before .before .before .before .args .n) (c .before .before .before .before .before .before .before .before .args .plants .now) (c .before .before .before .before .before .before .before .before .args .logs .now) (c .before .before .before .before .before .before .before .before .args .tracker .now) (sym (c .before .before .before .tick-answer .ensures) ∙ c .before .enum-told .given .1)
+    let args = c .before .before .before .before .before .before .before .before .args in
+    tick-known (args .n) (args .plants .now) (args .logs .now) (args .tracker .now)
+    (sym (c .before .before .before .tick-answer .ensures) ∙ c .before .enum-told .given .1)
 
 same-length : tie.Need-same-length
 same-length c = search needs
 
 returns : tie.Need-returns
 returns c =
-    (c .before .before .before .before .before .before .tick-answer .ensures, passed (c .before .before .before .before .before .before .before .before .before .before .before .args .n) (c .before .before .before .before .before .before .before .before .before .before .before .args .plants .now) (c .before .before .before .before .before .before .before .before .before .before .before .args .logs .now) (c .before .before .before .before .before .before .before .before .before .before .before .args .tracker .now) _ (sym (c .before .before .before .before .before .before .tick-answer .ensures) ∙ c .before .before .before .before .enum-told .given .1) (c .before .before .remember .ensures))
+    let args = c .before .before .before .before .before .before .before .before .before .before .before .args in
+    let the-tick-answer = c .before .before .before .before .before .before .tick-answer in
+    let the-enum-told = c .before .before .before .before .enum-told in (
+      the-tick-answer .ensures,
+      passed (args .n) (args .plants .now) (args .logs .now) (args .tracker .now) _
+          (sym (the-tick-answer .ensures) ∙ the-enum-told .given .1) (c .before .before .remember .ensures),
+    )
 
 same-length-2 : tie.Need-same-length-2
 same-length-2 c = search needs
 
 returns-2 : tie.Need-returns-2
 returns-2 c =
-    (c .before .tick-answer .ensures, kept (c .before .before .before .before .before .before .args .n) (c .before .before .before .before .before .before .args .plants .now) (c .before .before .before .before .before .before .args .logs .now) (c .before .before .before .before .before .before .args .tracker .now) (λ e. no-pass (c .before .tick-answer .result) (c .match .keys2) (c .before .tick-answer .ensures ∙ e)))
+    let args = c .before .before .before .before .before .before .args in
+    let the-tick-answer = c .before .tick-answer in (
+      the-tick-answer .ensures,
+      kept (args .n) (args .plants .now) (args .logs .now) (args .tracker .now)
+          (λ e. no-pass (the-tick-answer .result) (c .match .keys2) (the-tick-answer .ensures ∙ e)),
+    )
 
 pub tick-spec : {M : Type 1} → statement M
 tick-spec =

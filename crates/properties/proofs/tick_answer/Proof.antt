@@ -37,31 +37,54 @@ plant-count-requires c κs = search needs
 
 returns : tie.Need-returns
 returns c =
-    miscounted (c .before .before .before .before .before .args .n) (c .before .before .before .before .before .args .plants .now) (c .before .before .before .before .before .args .logs .now) (c .before .before .before .before .before .args .tracker .now) (sym (c .before .plant-count .ensures) ∙ not-true _ (c .if1 .taken))
+    let args = c .before .before .before .before .before .args in
+    miscounted (args .n) (args .plants .now) (args .logs .now) (args .tracker .now) (sym (c .before .plant-count .ensures) ∙ not-true _ (c .if1 .taken))
 
 snapshot-fits-requires : tie.Need-snapshot-fits-requires
 snapshot-fits-requires c κs =
-    count-known (c .before .before .before .before .before .args .n) (sym (c .before .plant-count .ensures) ∙ not-false _ (c .if1 .left)) .1
+    let args = c .before .before .before .before .before .args in
+    count-known (args .n) (sym (c .before .plant-count .ensures) ∙ not-false _ (c .if1 .left)) .1
 
 returns-2 : tie.Need-returns-2
 returns-2 c =
-    unfit (c .before .before .before .before .before .before .before .args .n) (c .before .before .before .before .before .before .before .args .plants .now) (c .before .before .before .before .before .before .before .args .logs .now) (c .before .before .before .before .before .before .before .args .tracker .now) (sym (c .before .before .before .plant-count .ensures) ∙ not-false _ (c .before .before .if1 .left)) (sym (c .before .snapshot-fits .ensures) ∙ not-true _ (c .if2 .taken))
+    let args = c .before .before .before .before .before .before .before .args in
+    unfit (args .n) (args .plants .now) (args .logs .now) (args .tracker .now) (sym (c .before .before .before .plant-count .ensures) ∙ not-false _
+    (c .before .before .if1 .left)) (sym (c .before .snapshot-fits .ensures) ∙ not-true _ (c .if2 .taken))
 
 tracker-fits-requires : tie.Need-tracker-fits-requires
 tracker-fits-requires c κs =
-    count-known (c .before .before .before .before .before .before .before .args .n) (sym (c .before .before .before .plant-count .ensures) ∙ not-false _ (c .before .before .if1 .left)) .1
+    let args = c .before .before .before .before .before .before .before .args in
+    count-known (args .n) (sym (c .before .before .before .plant-count .ensures) ∙ not-false _ (c .before .before .if1 .left)) .1
 
 returns-3 : tie.Need-returns-3
 returns-3 c =
-    untracked (c .before .before .before .before .before .before .before .before .before .args .n) (c .before .before .before .before .before .before .before .before .before .args .plants .now) (c .before .before .before .before .before .before .before .before .before .args .logs .now) (c .before .before .before .before .before .before .before .before .before .args .tracker .now) (sym (c .before .before .before .before .before .plant-count .ensures) ∙ not-false _ (c .before .before .before .before .if1 .left)) (sym (c .before .before .before .snapshot-fits .ensures) ∙ not-false _ (c .before .before .if2 .left)) (sym (c .before .tracker-fits .ensures) ∙ not-true _ (c .if3 .taken))
+    let args = c .before .before .before .before .before .before .before .before .before .args in
+    let the-plant-count = c .before .before .before .before .before .plant-count in
+    let if1 = c .before .before .before .before .if1 in
+    untracked (args .n) (args .plants .now) (args .logs .now) (args .tracker .now) (sym (the-plant-count .ensures) ∙ not-false _ (if1 .left))
+    (sym (c .before .before .before .snapshot-fits .ensures) ∙ not-false _ (c .before .before .if2 .left))
+    (sym (c .before .tracker-fits .ensures) ∙ not-true _ (c .if3 .taken))
 
 judge-requires : tie.Need-judge-requires
 judge-requires c κs =
-    (snapshot-known (c .before .before .before .before .before .before .before .before .before .args .n) (c .before .before .before .before .before .before .before .before .before .args .plants .now) (c .before .before .before .before .before .before .before .before .before .args .logs .now) (sym (c .before .before .before .before .before .plant-count .ensures) ∙ not-false _ (c .before .before .before .before .if1 .left)) (sym (c .before .before .before .snapshot-fits .ensures) ∙ not-false _ (c .before .before .if2 .left)), tracker-known (c .before .before .before .before .before .before .before .before .before .args .n) (c .before .before .before .before .before .before .before .before .before .args .tracker .now) (sym (c .before .tracker-fits .ensures) ∙ not-false _ (c .if3 .left)))
+    let args = c .before .before .before .before .before .before .before .before .before .args in
+    let the-plant-count = c .before .before .before .before .before .plant-count in
+    let if1 = c .before .before .before .before .if1 in (
+      snapshot-known (args .n) (args .plants .now) (args .logs .now) (sym (the-plant-count .ensures) ∙ not-false _ (if1 .left))
+          (sym (c .before .before .before .snapshot-fits .ensures) ∙ not-false _ (c .before .before .if2 .left)),
+      tracker-known (args .n)
+          (args .tracker .now) (sym (c .before .tracker-fits .ensures) ∙ not-false _ (c .if3 .left)),
+    )
 
 returns-4 : tie.Need-returns-4
 returns-4 c =
-    c .judge .ensures ∙ taken (c .before .before .before .before .before .before .before .before .before .before .args .n) (c .before .before .before .before .before .before .before .before .before .before .args .plants .now) (c .before .before .before .before .before .before .before .before .before .before .args .logs .now) (c .before .before .before .before .before .before .before .before .before .before .args .tracker .now) (sym (c .before .before .before .before .before .before .plant-count .ensures) ∙ not-false _ (c .before .before .before .before .before .if1 .left)) (sym (c .before .before .before .before .snapshot-fits .ensures) ∙ not-false _ (c .before .before .before .if2 .left)) (sym (c .before .before .tracker-fits .ensures) ∙ not-false _ (c .before .if3 .left))
+    let args = c .before .before .before .before .before .before .before .before .before .before .args in
+    let the-plant-count = c .before .before .before .before .before .before .plant-count in
+    let if1 = c .before .before .before .before .before .if1 in
+    let the-snapshot-fits = c .before .before .before .before .snapshot-fits in
+    c .judge .ensures ∙ taken (args .n) (args .plants .now) (args .logs .now) (args .tracker .now)
+    (sym (the-plant-count .ensures) ∙ not-false _ (if1 .left)) (sym (the-snapshot-fits .ensures) ∙ not-false _
+    (c .before .before .before .if2 .left)) (sym (c .before .before .tracker-fits .ensures) ∙ not-false _ (c .before .if3 .left))
 
 pub tick-answer-spec : {M : Type 1} → statement M
 tick-answer-spec =

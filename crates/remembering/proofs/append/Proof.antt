@@ -27,7 +27,8 @@ module _ (n : ℕ) (p l t w : List ℕ) (known i q : ℕ) (from : known ≤ i) (
   another e =
       let m = i - known in
       let es = numbered m (source n p l t known) in
-      let long : length (wordsOf (numbered m (source n p l t known))) ≡ m * 4 = length-words es ∙ ap (λ (k : ℕ). k * 4) (length-numbered m (source n p l t known)) in
+      let long : length (wordsOf (numbered m (source n p l t known))) ≡ m * 4 = length-words es ∙ ap (λ (k : ℕ). k * 4)
+      (length-numbered m (source n p l t known)) in
       let z : i ≡ known + m = omega arith in
       let y : m + 1 ≡ i + 1 - known = omega arith in
       let x : entryIn l (entryAt q i) ≡ source n p l t known m =
@@ -44,7 +45,8 @@ nothing n p l t w known =
     rw (z, numbered-none (source n p l t known)) (sym (laid-none w (canonicalAt n known)))
 
 abbrev Inv-loop : tie.InvT-loop
-Inv-loop n plants logs tracker₀ known longest i₀ tracker i = (known ≤ i) × (i ≤ longest) × (length tracker ≡ length tracker₀) × ((t : List ℕ) → tracker ≡ laid tracker₀ (canonicalAt n known) (wordsOf (numbered (i - known) (source n plants logs t known))))
+Inv-loop n plants logs tracker₀ known longest i₀ tracker i = (known ≤ i) × (i ≤ longest) × (length tracker ≡ length tracker₀) ×
+    ((t : List ℕ) → tracker ≡ laid tracker₀ (canonicalAt n known) (wordsOf (numbered (i - known) (source n plants logs t known))))
 
 abbrev μ-loop : tie.MeasureT-loop
 μ-loop n plants logs tracker₀ known longest i₀ tracker i = longest - i
@@ -60,54 +62,82 @@ loop-holds c =
 
 committer-requires : tie.Need-committer-requires Inv-loop μ-loop
 committer-requires c κs =
-    (c .before .before .before .before .before .pre .0 .0, c .before .before .before .before .before .pre .0 .1, c .before .before .before .before .before .pre .0 .2)
+    let pre = c .before .before .before .before .before .pre in
+    (pre .0 .0, pre .0 .1, pre .0 .2)
 
 mul-copy-entry : tie.Need-mul-copy-entry Inv-loop μ-loop
 mul-copy-entry c =
-    omega (arith, plant-of (c .before .before .before .before .before .before .args .n) (c .before .before .before .before .before .before .args .plants .now) (c .before .before .loop .i) (c .committer .result) (c .before .before .before .before .before .before .pre .0 .0) (c .committer .ensures), c .before .before .before .before .before .before .pre .0 .1)
+    let args = c .before .before .before .before .before .before .args in
+    let pre = c .before .before .before .before .before .before .pre in
+    omega (arith, plant-of (args .n) (args .plants .now) (c .before .before .loop .i) (c .committer .result) (pre .0 .0) (c .committer .ensures), pre .0 .1)
 
 mul-copy-entry-2 : tie.Need-mul-copy-entry-2 Inv-loop μ-loop
-mul-copy-entry-2 c = omega (arith, c .before .before .before .before .before .before .pre .1 .1)
+mul-copy-entry-2 c =
+    let pre = c .before .before .before .before .before .before .pre in
+    omega (arith, pre .1 .1)
 
 add-copy-entry : tie.Need-add-copy-entry Inv-loop μ-loop
 add-copy-entry c =
-    omega (arith, plant-of (c .before .before .before .before .before .before .args .n) (c .before .before .before .before .before .before .args .plants .now) (c .before .before .loop .i) (c .committer .result) (c .before .before .before .before .before .before .pre .0 .0) (c .committer .ensures), c .before .before .before .before .before .before .pre .0 .1, c .before .before .before .before .before .before .pre .1 .1)
+    let args = c .before .before .before .before .before .before .args in
+    let pre = c .before .before .before .before .before .before .pre in
+    omega (
+      arith,
+      plant-of (args .n) (args .plants .now) (c .before .before .loop .i) (c .committer .result) (pre .0 .0) (c .committer .ensures),
+      pre .0 .1,
+      pre .1 .1,
+    )
 
 add-copy-entry-2 : tie.Need-add-copy-entry-2 Inv-loop μ-loop
 add-copy-entry-2 c =
-    omega (arith, c .before .before .before .before .before .before .before .pre .0 .1, c .before .before .before .before .before .before .before .pre .1 .1)
+    let pre = c .before .before .before .before .before .before .before .pre in
+    omega (arith, pre .0 .1, pre .1 .1)
 
 mul-copy-entry-3 : tie.Need-mul-copy-entry-3 Inv-loop μ-loop
-mul-copy-entry-3 c = omega (arith, c .before .before .before .before .before .before .before .pre .1 .1)
+mul-copy-entry-3 c =
+    let pre = c .before .before .before .before .before .before .before .pre in
+    omega (arith, pre .1 .1)
 
 add-copy-entry-3 : tie.Need-add-copy-entry-3 Inv-loop μ-loop
 add-copy-entry-3 c =
-    omega (arith, c .before .before .before .before .before .before .before .pre .0 .1, c .before .before .before .before .before .before .before .pre .1 .1)
+    let pre = c .before .before .before .before .before .before .before .pre in
+    omega (arith, pre .0 .1, pre .1 .1)
 
 copy-entry-requires : tie.Need-copy-entry-requires Inv-loop μ-loop
 copy-entry-requires c κs =
-    let h = plant-of (c .before .before .before .before .before .before .before .args .n) (c .before .before .before .before .before .before .before .args .plants .now) (c .before .before .before .loop .i) (c .before .committer .result) (c .before .before .before .before .before .before .before .pre .0 .0) (c .before .committer .ensures) in
-    (omega (arith, h, c .before .before .before .before .before .before .before .pre .0 .3, c .before .before .before .before .before .before .before .pre .1 .1, c .before .before .loop-test .taken), omega (arith, c .before .before .before .before .before .before .before .pre .0 .4, c .before .before .before .loop .inv .2, c .before .before .before .before .before .before .before .pre .1 .1, c .before .before .loop-test .taken))
+    let args = c .before .before .before .before .before .before .before .args in
+    let pre = c .before .before .before .before .before .before .before .pre in
+    let loop = c .before .before .before .loop in
+    let loop-test = c .before .before .loop-test in
+    let the-committer = c .before .committer in
+    let h = plant-of (args .n) (args .plants .now) (loop .i) (the-committer .result) (pre .0 .0) (the-committer .ensures) in
+    (omega (arith, h, pre .0 .3, pre .1 .1, loop-test .taken), omega (arith, pre .0 .4, loop .inv .2, pre .1 .1, loop-test .taken))
 
 add-i : tie.Need-add-i Inv-loop μ-loop
 add-i c =
-    omega (arith, c .before .before .before .before .before .before .before .before .before .before .pre .1 .1, c .before .before .before .before .before .loop-test .taken)
+    let pre = c .before .before .before .before .before .before .before .before .before .before .pre in
+    let loop-test = c .before .before .before .before .before .loop-test in
+    omega (arith, pre .1 .1, loop-test .taken)
 
 loop-less : tie.Need-loop-less Inv-loop μ-loop
 loop-less c = omega arith
 
 loop-again : tie.Need-loop-again Inv-loop μ-loop
 loop-again c =
+    let pre = c .before .before .before .before .before .before .before .before .before .before .pre in
+    let loop-test = c .before .before .before .before .before .loop-test in
+    let the-committer = c .before .before .before .before .committer in
+    let the-copy-entry = c .before .before .copy-entry in
     let a = c .before .before .before .before .before .before .before .before .before .before .args in
     let l = c .before .before .before .before .before .before .loop in (
       omega arith,
-      omega (arith, c .before .before .before .before .before .loop-test .taken),
-      omega (arith, c .before .before .copy-entry .kept .1 .1 .0, l .inv .2),
+      omega (arith, loop-test .taken),
+      omega (arith, the-copy-entry .kept .1 .1 .0, l .inv .2),
       λ t.
-          c .before .before .copy-entry .ensures
-          ∙ (ap (λ (x : List ℕ). laid x (canonicalAt (a .n) (l .i)) (wordsOfEntry (entryIn (a .logs .now) (entryAt (c .before .before .before .before .committer .result) (l .i))))) (l .inv .3 t)
-          ∙ another (a .n) (a .plants .now) (a .logs .now) t (a .tracker .now) (a .known) (l .i) (c .before .before .before .before .committer .result) (l .inv .0)
-          (omega (arith, c .before .before .before .before .before .before .before .before .before .before .pre .0 .4, c .before .before .before .before .before .before .before .before .before .before .pre .1 .1, c .before .before .before .before .before .loop-test .taken)) (c .before .before .before .before .committer .ensures (a .logs .now) t)),
+          the-copy-entry .ensures
+          ∙ (ap (λ (x : List ℕ). laid x (canonicalAt (a .n) (l .i)) (wordsOfEntry (entryIn (a .logs .now) (entryAt (the-committer .result) (l .i)))))
+          (l .inv .3 t)
+          ∙ another (a .n) (a .plants .now) (a .logs .now) t (a .tracker .now) (a .known) (l .i) (the-committer .result) (l .inv .0)
+          (omega (arith, pre .0 .4, pre .1 .1, loop-test .taken)) (the-committer .ensures (a .logs .now) t)),
     )
 
 same-length : tie.Need-same-length Inv-loop μ-loop
@@ -118,7 +148,8 @@ returns c =
     let a = c .before .before .before .before .before .args in
     let l = c .before .loop in
     let z : l .i ≡ a .longest = omega arith in
-    λ t. l .inv .3 t ∙ ap (λ (k : ℕ). laid (a .tracker .now) (canonicalAt (a .n) (a .known)) (wordsOf (numbered (k - a .known) (source (a .n) (a .plants .now) (a .logs .now) t (a .known))))) z
+    λ t. l .inv .3 t ∙ ap (λ (k : ℕ). laid (a .tracker .now) (canonicalAt (a .n) (a .known))
+    (wordsOf (numbered (k - a .known) (source (a .n) (a .plants .now) (a .logs .now) t (a .known))))) z
 
 pub append-spec : {M : Type 1} → statement M
 append-spec =

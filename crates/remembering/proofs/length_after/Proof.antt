@@ -19,7 +19,8 @@ abbrev μ-loop : tie.MeasureT-loop
 
 loop-holds : tie.Need-loop-holds Inv-loop μ-loop
 loop-holds c =
-    (omega arith, sym (max-none (λ k. getD (c .before .args .plants .now) (commitAt k) 0) (c .before .args .known)))
+    let args = c .before .args in
+    (omega arith, sym (max-none (λ k. getD (args .plants .now) (commitAt k) 0) (args .known)))
 
 mul-number : tie.Need-mul-number Inv-loop μ-loop
 mul-number c = omega arith
@@ -38,10 +39,11 @@ loop-less c = omega arith
 
 loop-again : tie.Need-loop-again Inv-loop μ-loop
 loop-again c =
+    let the-number = c .before .number in
     let a = c .before .before .before .before .before .args in
     let l = c .before .before .before .loop in
     let m = max-more (l .r) (λ k. getD (a .plants .now) (commitAt k) 0) (a .known) in
-    (omega arith, ⊎-elim (λ w. omega (arith, m, l .inv .1, c .before .number .ensures)) (λ w. omega (arith, m, l .inv .1, c .before .number .ensures)) (c .if1 .came))
+    (omega arith, ⊎-elim (λ w. omega (arith, m, l .inv .1, the-number .ensures)) (λ w. omega (arith, m, l .inv .1, the-number .ensures)) (c .if1 .came))
 
 returns : tie.Need-returns Inv-loop μ-loop
 returns c =

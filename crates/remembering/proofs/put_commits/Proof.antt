@@ -46,7 +46,8 @@ mul-tracker c = omega arith
 
 slice-write-tracker-2 : tie.Need-slice-write-tracker-2 Inv-loop μ-loop
 slice-write-tracker-2 c =
-    omega (arith, c .before .before .loop .inv .1, length-set (c .before .before .before .args .tracker .now) 1 (c .before .before .before .args .longest))
+    let args = c .before .before .before .args in
+    omega (arith, c .before .before .loop .inv .1, length-set (args .tracker .now) 1 (args .longest))
 
 add-r : tie.Need-add-r Inv-loop μ-loop
 add-r c = omega arith
@@ -62,12 +63,14 @@ loop-again c =
       omega arith,
       length-set (l .tracker) (2 + l .r) (commits (a .plants .now) (l .r)) ∙ l .inv .1,
       ap (λ (x : List ℕ). set x (2 + l .r) (commits (a .plants .now) (l .r))) (l .inv .2)
-          ∙ laid-numbered w 2 (commits (a .plants .now)) (l .r) (2 + l .r) (commits (a .plants .now) (l .r)) refl (omega (arith, length-set (a .tracker .now) 1 (a .longest))) refl,
+          ∙ laid-numbered w 2 (commits (a .plants .now)) (l .r) (2 + l .r) (commits (a .plants .now) (l .r)) refl
+          (omega (arith, length-set (a .tracker .now) 1 (a .longest))) refl,
     )
 
 same-length : tie.Need-same-length Inv-loop μ-loop
 same-length c =
-    omega (arith, c .before .loop .inv .1, length-set (c .before .before .args .tracker .now) 1 (c .before .before .args .longest))
+    let args = c .before .before .args in
+    omega (arith, c .before .loop .inv .1, length-set (args .tracker .now) 1 (args .longest))
 
 returns : tie.Need-returns Inv-loop μ-loop
 returns c =

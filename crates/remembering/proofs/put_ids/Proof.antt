@@ -40,49 +40,75 @@ unfolding withIds
 loop-holds c = (omega arith, refl, refl)
 
 add-number : tie.Need-add-number Inv-loop μ-loop
-add-number c = omega (arith, c .before .before .before .before .before .before .pre .0 .few)
+add-number c =
+    let pre = c .before .before .before .before .before .before .pre in
+    omega (arith, pre .0 .few)
 
 number-requires : tie.Need-number-requires Inv-loop μ-loop
 number-requires c κs =
-    omega (arith, c .before .before .before .before .before .before .pre .1 .words, c .before .before .loop .inv .1)
+    let pre = c .before .before .before .before .before .before .pre in
+    omega (arith, pre .1 .words, c .before .before .loop .inv .1)
 
 mul-number : tie.Need-mul-number Inv-loop μ-loop
-mul-number c = omega (arith, c .before .before .before .before .before .before .before .pre .0 .few)
+mul-number c =
+    let pre = c .before .before .before .before .before .before .before .pre in
+    omega (arith, pre .0 .few)
 
 add-number-2 : tie.Need-add-number-2 Inv-loop μ-loop
-add-number-2 c = omega (arith, c .before .before .before .before .before .before .before .pre .0 .few)
+add-number-2 c =
+    let pre = c .before .before .before .before .before .before .before .pre in
+    omega (arith, pre .0 .few)
 
 number-requires-2 : tie.Need-number-requires-2 Inv-loop μ-loop
-number-requires-2 c κs = omega (arith, c .before .before .before .before .before .before .before .pre .0 .plants)
+number-requires-2 c κs =
+    let pre = c .before .before .before .before .before .before .before .pre in
+    omega (arith, pre .0 .plants)
 
 put-plant-ids-requires : tie.Need-put-plant-ids-requires Inv-loop μ-loop
 put-plant-ids-requires c κs =
+    let pre = c .before .before .before .before .before .before .before .before .before .pre in
+    let loop = c .before .before .before .before .before .loop in
+    let loop-test = c .before .before .before .before .loop-test in
+    let the-number2 = c .before .number2 in
     let a = c .before .before .before .before .before .before .before .before .before .args in
-    let h = c .before .before .before .before .loop-test .taken in
-    let e = c .before .before .number .ensures ∙ last-kept (a .n) (a .plants .now) (a .logs .now) (a .tracker .now) (c .before .before .before .before .before .before .before .before .before .pre .0) (c .before .before .before .before .before .before .before .before .before .pre .1) (c .before .before .before .before .before .before .before .before .before .pre .2) (c .before .before .before .before .before .loop .r) h (c .before .before .before .before .before .loop .tracker) (c .before .before .before .before .before .loop .inv .2) in (
-      c .before .before .before .before .before .before .before .before .before .pre .0 .few,
+    let h = loop-test .taken in
+    let e = c .before .before .number .ensures ∙ last-kept (a .n) (a .plants .now) (a .logs .now) (a .tracker .now) (pre .0) (pre .1) (pre .2)
+    (loop .r) h (loop .tracker) (loop .inv .2) in (
+      pre .0 .few,
       h,
-      omega (arith, e, c .before .number2 .ensures, c .before .before .before .before .before .before .before .before .before .pre .2 .onward (c .before .before .before .before .before .loop .r) h),
-      omega (arith, c .before .number2 .ensures, c .before .before .before .before .before .before .before .before .before .pre .2 .within (c .before .before .before .before .before .loop .r) h, c .before .before .before .before .before .before .before .before .before .pre .0 .sizes (c .before .before .before .before .before .loop .r) h),
-      c .before .before .before .before .before .before .before .before .before .pre .0 .logs,
-      c .before .before .before .before .before .loop .inv .1 ∙ c .before .before .before .before .before .before .before .before .before .pre .1 .words,
+      omega (arith, e, the-number2 .ensures, pre .2 .onward (loop .r) h),
+      omega (arith, the-number2 .ensures, pre .2 .within (loop .r) h, pre .0 .sizes (loop .r) h),
+      pre .0 .logs,
+      loop .inv .1 ∙ pre .1 .words,
     )
 
 add-r : tie.Need-add-r Inv-loop μ-loop
 add-r c =
-    omega (arith, c .before .before .before .before .before .before .before .before .before .before .before .before .pre .0 .few, c .before .before .before .before .before .before .before .loop-test .taken)
+    let pre = c .before .before .before .before .before .before .before .before .before .before .before .before .pre in
+    let loop-test = c .before .before .before .before .before .before .before .loop-test in
+    omega (arith, pre .0 .few, loop-test .taken)
 
 loop-less : tie.Need-loop-less Inv-loop μ-loop
-loop-less c = omega (arith, c .before .before .before .before .before .before .before .loop-test .taken)
+loop-less c =
+    let loop-test = c .before .before .before .before .before .before .before .loop-test in
+    omega (arith, loop-test .taken)
 
 loop-again : tie.Need-loop-again Inv-loop μ-loop
 loop-again c =
+    let pre = c .before .before .before .before .before .before .before .before .before .before .before .before .pre in
+    let loop = c .before .before .before .before .before .before .before .before .loop in
+    let loop-test = c .before .before .before .before .before .before .before .loop-test in
+    let the-number = c .before .before .before .before .before .number in
+    let the-number2 = c .before .before .before .before .number2 in
+    let the-put-plant-ids = c .before .before .put-plant-ids in
     let a = c .before .before .before .before .before .before .before .before .before .before .before .before .args in
-    let h = c .before .before .before .before .before .before .before .loop-test .taken in
-    let e = c .before .before .before .before .before .number .ensures ∙ last-kept (a .n) (a .plants .now) (a .logs .now) (a .tracker .now) (c .before .before .before .before .before .before .before .before .before .before .before .before .pre .0) (c .before .before .before .before .before .before .before .before .before .before .before .before .pre .1) (c .before .before .before .before .before .before .before .before .before .before .before .before .pre .2) (c .before .before .before .before .before .before .before .before .loop .r) h (c .before .before .before .before .before .before .before .before .loop .tracker) (c .before .before .before .before .before .before .before .before .loop .inv .2) in (
+    let h = loop-test .taken in
+    let e = the-number .ensures ∙ last-kept (a .n) (a .plants .now) (a .logs .now) (a .tracker .now) (pre .0) (pre .1) (pre .2) (loop .r) h
+    (loop .tracker) (loop .inv .2) in (
       omega (arith, h),
-      c .before .before .put-plant-ids .kept .1 .1 .1 .1 .1 .0 ∙ c .before .before .before .before .before .before .before .before .loop .inv .1,
-      another (a .n) (a .plants .now) (a .logs .now) (a .tracker .now) (c .before .before .before .before .before .before .before .before .before .before .before .before .pre .0) (c .before .before .before .before .before .before .before .before .before .before .before .before .pre .1) (c .before .before .before .before .before .before .before .before .before .before .before .before .pre .2) (c .before .before .before .before .before .before .before .before .loop .r) h (c .before .before .before .before .before .before .before .before .loop .tracker) _ _ _ (c .before .before .before .before .before .before .before .before .loop .inv .2) e (c .before .before .before .before .number2 .ensures) (c .before .before .put-plant-ids .ensures),
+      the-put-plant-ids .kept .1 .1 .1 .1 .1 .0 ∙ loop .inv .1,
+      another (a .n) (a .plants .now) (a .logs .now) (a .tracker .now) (pre .0) (pre .1) (pre .2) (loop .r) h (loop .tracker) _ _ _ (loop .inv .2) e
+          (the-number2 .ensures) (the-put-plant-ids .ensures),
     )
 
 same-length : tie.Need-same-length Inv-loop μ-loop
@@ -90,9 +116,10 @@ same-length c = c .before .loop .inv .1
 
 returns : tie.Need-returns Inv-loop μ-loop
 returns c =
+    let loop = c .before .loop in
     let a = c .before .before .before .before .before .args in
-    let z : c .before .loop .r ≡ a .n = omega (arith, c .loop-test .left, c .before .loop .inv .0) in
-    c .before .loop .inv .2 ∙ ap (λ (k : ℕ). withIds (clusterIn (a .n) (a .plants .now) (a .logs .now) (a .tracker .now)) k (a .tracker .now)) z
+    let z : loop .r ≡ a .n = omega (arith, c .loop-test .left, loop .inv .0) in
+    loop .inv .2 ∙ ap (λ (k : ℕ). withIds (clusterIn (a .n) (a .plants .now) (a .logs .now) (a .tracker .now)) k (a .tracker .now)) z
 
 pub put-ids-spec : {M : Type 1} → statement M
 put-ids-spec =

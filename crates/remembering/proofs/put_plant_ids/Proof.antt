@@ -15,7 +15,8 @@ abbrev ids : List ℕ → ℕ → ℕ → ℕ → ℕ
 ids l r from k = getD l (entryAt r (from + k) + 2) 0
 
 abbrev Inv-loop : tie.InvT-loop
-Inv-loop n r last commit logs tracker₀ i₀ tracker i = (last ≤ i) × (i ≤ commit) × (length tracker ≡ length tracker₀) × (tracker ≡ laid tracker₀ (seenAt n r last) (numbered (i - last) (ids logs r last)))
+Inv-loop n r last commit logs tracker₀ i₀ tracker i = (last ≤ i) × (i ≤ commit) × (length tracker ≡ length tracker₀) ×
+    (tracker ≡ laid tracker₀ (seenAt n r last) (numbered (i - last) (ids logs r last)))
 
 abbrev μ-loop : tie.MeasureT-loop
 μ-loop n r last commit logs tracker₀ i₀ tracker i = commit - i
@@ -26,8 +27,13 @@ same l r from i h = let z : i ≡ from + (i - from) = omega arith in ap (λ (j :
 
 loop-holds : tie.Need-loop-holds Inv-loop μ-loop
 loop-holds c =
-    let a = c .args in
-    (omega arith, omega arith, refl, laid-start (a .tracker .now) (seenAt (a .n) (a .r) (a .last)) (ids (a .logs .now) (a .r) (a .last)) (a .last - a .last) (omega arith))
+    let a = c .args in (
+      omega arith,
+      omega arith,
+      refl,
+      laid-start (a .tracker .now) (seenAt (a .n) (a .r) (a .last)) (ids (a .logs .now) (a .r) (a .last))
+          (a .last - a .last) (omega arith),
+    )
 
 mul-id : tie.Need-mul-id Inv-loop μ-loop
 mul-id c = omega arith
@@ -83,7 +89,8 @@ loop-again c =
       omega arith,
       simp length-set (omega arith),
       ap (λ (x : List ℕ). set x (seenAt (a .n) (a .r) (l .i)) (getD (a .logs .now) (entryAt (a .r) (l .i) + 2) 0)) (l .inv .3)
-          ∙ (laid-numbered (a .tracker .now) (seenAt (a .n) (a .r) (a .last)) (ids (a .logs .now) (a .r) (a .last)) (l .i - a .last) (seenAt (a .n) (a .r) (l .i)) _
+          ∙ (laid-numbered (a .tracker .now) (seenAt (a .n) (a .r) (a .last)) (ids (a .logs .now) (a .r) (a .last)) (l .i - a .last)
+          (seenAt (a .n) (a .r) (l .i)) _
           (omega arith) (omega arith) (same (a .logs .now) (a .r) (a .last) (l .i) (l .inv .0))
           ∙ ap (λ (k : ℕ). laid (a .tracker .now) (seenAt (a .n) (a .r) (a .last)) (numbered k (ids (a .logs .now) (a .r) (a .last)))) z),
     )

@@ -26,7 +26,8 @@ module _ (n : ℕ) (p l t : List ℕ) (s : Snapshot n p l) (k : Tracked n t) (f 
   )
 
   all-written : (known : ℕ) (u v w : List ℕ) → known ≡ getD t 1 0 → u ≡ withIds (clusterIn n p l t) n t
-      → v ≡ laid u (canonicalAt n known) (wordsOf (numbered (longest - known) (λ j. entryIn l (entryAt (committer (clusterIn n p l t) (known + j)) (known + j)))))
+      → v ≡ laid u (canonicalAt n known) (wordsOf (numbered (longest - known) (λ j. entryIn l
+      (entryAt (committer (clusterIn n p l t) (known + j)) (known + j)))))
       → w ≡ laid v 1 (longest ∷ numbered n (λ r. getD p (commitAt r) 0))
       → w ≡ remembered (clusterIn n p l t) t
   unfolding remembered withCommits withEntries
@@ -35,10 +36,21 @@ module _ (n : ℕ) (p l t : List ℕ) (s : Snapshot n p l) (k : Tracked n t) (f 
       let commits : numbered n (λ r. getD p (commitAt r) 0) ≡ numbered n (λ r. plant c r .commit) =
       numbered-same n (λ r. getD p (commitAt r) 0) (λ r. plant c r .commit) (λ r h. sym (commit-held n p l t r h)) in
       g
-      ∙ rw (b, e, a, m ∙ sym (length-held n p l t s k f), commits, canonical-long n p l t, appended-held n p l t s k f (lengthAfter c) (length-held n p l t s k f))
+      ∙ rw (
+        b,
+        e,
+        a,
+        m ∙ sym (length-held n p l t s k f),
+        commits,
+        canonical-long n p l t,
+        appended-held n p l t s k f (lengthAfter c)
+            (length-held n p l t s k f),
+      )
 
 number-requires : tie.Need-number-requires
-number-requires c κs = omega (arith, c .before .before .before .before .pre .1 .words)
+number-requires c κs =
+    let pre = c .before .before .before .before .pre in
+    omega (arith, pre .1 .words)
 
 length-after-requires : tie.Need-length-after-requires
 length-after-requires c κs = search needs
@@ -48,10 +60,16 @@ put-ids-requires c κs = search needs
 
 append-requires : tie.Need-append-requires
 append-requires c κs =
+    let pre = c .before .before .before .before .before .before .before .before .before .before .before .pre in
+    let the-number = c .before .before .before .before .before .before .number in
+    let the-length-after = c .before .before .before .before .before .length-after in
     let a = c .before .before .before .before .before .before .before .before .before .before .before .args in
-    let e = c .before .before .before .before .before .before .number .ensures in
-    let r = reach (a .n) (a .plants .now) (a .logs .now) (a .tracker .now) (c .before .before .before .before .before .before .before .before .before .before .before .pre .0) (c .before .before .before .before .before .before .before .before .before .before .before .pre .1) (c .before .before .before .before .before .before .before .before .before .before .before .pre .2) (c .before .before .before .before .before .length-after .result) (c .before .before .before .before .before .length-after .ensures ∙ ap (maxBelow (a .n) (λ r. getD (a .plants .now) (commitAt r) 0)) e) in
-    ((c .before .before .before .before .before .before .before .before .before .before .before .pre .0 .some, c .before .before .before .before .before .before .before .before .before .before .before .pre .0 .few, c .before .before .before .before .before .before .before .before .before .before .before .pre .0 .plants, c .before .before .before .before .before .before .before .before .before .before .before .pre .0 .logs, c .before .before .before .put-ids .kept .1 .1 .1 .0 ∙ c .before .before .before .before .before .before .before .before .before .before .before .pre .1 .words), (omega (arith, r .0, e), r .1))
+    let e = the-number .ensures in
+    let r = reach (a .n) (a .plants .now) (a .logs .now) (a .tracker .now) (pre .0) (pre .1) (pre .2) (the-length-after .result)
+    (the-length-after .ensures ∙ ap (maxBelow (a .n) (λ r. getD (a .plants .now) (commitAt r) 0)) e) in (
+      (pre .0 .some, pre .0 .few, pre .0 .plants, pre .0 .logs, c .before .before .before .put-ids .kept .1 .1 .1 .0 ∙ pre .1 .words),
+      (omega (arith, r .0, e), r .1),
+    )
 
 put-commits-requires : tie.Need-put-commits-requires
 put-commits-requires c κs = search needs
@@ -61,10 +79,16 @@ same-length c = search needs
 
 returns : tie.Need-returns
 returns c =
+    let pre = c .before .before .before .before .before .before .before .before .before .before .before .before .before .before .before .before .before .before .pre in
+    let the-number = c .before .before .before .before .before .before .before .before .before .before .before .before .before .number in
+    let the-length-after = c .before .before .before .before .before .before .before .before .before .before .before .before .length-after in
+    let the-put-ids = c .before .before .before .before .before .before .before .before .before .before .put-ids in
+    let the-append = c .before .before .before .before .before .before .append in
     let a = c .before .before .before .before .before .before .before .before .before .before .before .before .before .before .before .before .before .before .args in
-    let e = c .before .before .before .before .before .before .before .before .before .before .before .before .before .number .ensures in
-    all-written (a .n) (a .plants .now) (a .logs .now) (a .tracker .now) (c .before .before .before .before .before .before .before .before .before .before .before .before .before .before .before .before .before .before .pre .0) (c .before .before .before .before .before .before .before .before .before .before .before .before .before .before .before .before .before .before .pre .1) (c .before .before .before .before .before .before .before .before .before .before .before .before .before .before .before .before .before .before .pre .2) (c .before .before .before .before .before .before .before .before .before .before .before .before .length-after .result) (c .before .before .before .before .before .before .before .before .before .before .before .before .length-after .ensures ∙ ap (maxBelow (a .n) (λ r. getD (a .plants .now) (commitAt r) 0)) e)
-    (c .before .before .before .before .before .before .before .before .before .before .before .before .before .number .result) _ _ _ e (c .before .before .before .before .before .before .before .before .before .before .put-ids .ensures) (c .before .before .before .before .before .before .append .ensures (a .tracker .now)) (c .before .before .put-commits .ensures)
+    let e = the-number .ensures in
+    all-written (a .n) (a .plants .now) (a .logs .now) (a .tracker .now) (pre .0) (pre .1) (pre .2) (the-length-after .result)
+    (the-length-after .ensures ∙ ap (maxBelow (a .n) (λ r. getD (a .plants .now) (commitAt r) 0)) e)
+    (the-number .result) _ _ _ e (the-put-ids .ensures) (the-append .ensures (a .tracker .now)) (c .before .before .put-commits .ensures)
 
 pub remember-spec : {M : Type 1} → statement M
 remember-spec =

@@ -49,7 +49,9 @@ shared-slice-read-if1-2 c = omega arith
 
 returns : tie.Need-returns Inv-loop μ-loop
 returns c =
-    fails (c .before .before .before .before .before .args .n) (c .before .before .before .before .loop .r) (c .before .before .before .before .before .args .tracker .now) (c .before .before .before .loop-test .taken) (c .if1 .taken)
+    let args = c .before .before .before .before .before .args in
+    let loop = c .before .before .before .before .loop in
+    fails (args .n) (loop .r) (args .tracker .now) (c .before .before .before .loop-test .taken) (c .if1 .taken)
 
 add-r : tie.Need-add-r Inv-loop μ-loop
 add-r c = omega arith
@@ -59,11 +61,15 @@ loop-less c = omega arith
 
 loop-again : tie.Need-loop-again Inv-loop μ-loop
 loop-again c =
-    (omega arith, all-more (c .before .before .before .before .loop .r) (good (c .before .before .before .before .before .args .tracker .now)) (c .before .before .before .before .loop .inv .1) (le-leb _ _ (c .if1 .left)))
+    let args = c .before .before .before .before .before .args in
+    let loop = c .before .before .before .before .loop in
+    (omega arith, all-more (loop .r) (good (args .tracker .now)) (loop .inv .1) (le-leb _ _ (c .if1 .left)))
 
 returns-2 : tie.Need-returns-2 Inv-loop μ-loop
 returns-2 c =
-    holds (c .before .before .args .n) (c .before .loop .r) (c .before .before .args .tracker .now) (omega arith) (c .before .loop .inv .1)
+    let args = c .before .before .args in
+    let loop = c .before .loop in
+    holds (args .n) (loop .r) (args .tracker .now) (omega arith) (loop .inv .1)
 
 pub lasts-fit-spec : {M : Type 1} → statement M
 lasts-fit-spec =

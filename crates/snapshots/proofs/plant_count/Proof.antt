@@ -12,12 +12,14 @@ returns c = rw (lt-leb 3 (c .before .args .n) (c .if1 .taken))
 returns-2 : tie.Need-returns-2
 unfolding plantCount
 returns-2 c =
-    rw (le-leb 3 (c .before .before .args .n) (omega arith), lt-leb (c .before .before .args .n) 15 (c .if2 .taken))
+    let args = c .before .before .args in
+    rw (le-leb 3 (args .n) (omega arith), lt-leb (args .n) 15 (c .if2 .taken))
 
 returns-3 : tie.Need-returns-3
 unfolding plantCount
 returns-3 c =
-    rw (le-leb 3 (c .before .before .args .n) (omega arith), le-leb (c .before .before .args .n) 15 (omega arith))
+    let args = c .before .before .args in
+    rw (le-leb 3 (args .n) (omega arith), le-leb (args .n) 15 (omega arith))
 
 pub plant-count-spec : {M : Type 1} → statement M
 plant-count-spec = tie.close (tie.spec returns returns-2 returns-3)

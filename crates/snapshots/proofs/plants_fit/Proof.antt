@@ -55,7 +55,8 @@ shared-slice-read-if1 c = omega arith
 
 returns : tie.Need-returns Inv-loop μ-loop
 returns c =
-    unsure (c .before .before .before .before .before .args .n) (c .before .before .before .loop .r) (c .before .before .before .before .before .args .plants .now) (c .before .before .loop-test .taken) (c .if1 .taken)
+    let args = c .before .before .before .before .before .args in
+    unsure (args .n) (c .before .before .before .loop .r) (args .plants .now) (c .before .before .loop-test .taken) (c .if1 .taken)
 
 mul-number : tie.Need-mul-number Inv-loop μ-loop
 mul-number c = omega arith
@@ -68,7 +69,10 @@ number-requires c κs = search needs
 
 returns-2 : tie.Need-returns-2 Inv-loop μ-loop
 returns-2 c =
-    long (c .before .before .before .before .before .before .before .args .n) (c .before .before .before .before .before .loop .r) (c .before .before .before .before .before .before .before .args .plants .now) (c .before .before .before .before .loop-test .taken) (c .before .before .if1 .left) (omega (arith, c .before .number .ensures))
+    let args = c .before .before .before .before .before .before .before .args in
+    let loop = c .before .before .before .before .before .loop in
+    let loop-test = c .before .before .before .before .loop-test in
+    long (args .n) (loop .r) (args .plants .now) (loop-test .taken) (c .before .before .if1 .left) (omega (arith, c .before .number .ensures))
 
 add-r : tie.Need-add-r Inv-loop μ-loop
 add-r c = omega arith
@@ -81,12 +85,15 @@ loop-again c =
     let a = c .before .before .before .before .before .before .before .args in
     let l = c .before .before .before .before .before .loop in (
       omega arith,
-      all-more (l .r) (good (a .plants .now)) (l .inv .1) (more (a .n) (l .r) (a .plants .now) (c .before .before .if1 .left) (omega (arith, c .before .number .ensures))),
+      all-more (l .r) (good (a .plants .now)) (l .inv .1) (more (a .n) (l .r) (a .plants .now) (c .before .before .if1 .left)
+          (omega (arith, c .before .number .ensures))),
     )
 
 returns-3 : tie.Need-returns-3 Inv-loop μ-loop
 returns-3 c =
-    holds (c .before .before .before .args .n) (c .before .loop .r) (c .before .before .before .args .plants .now) (omega arith) (c .before .loop .inv .1)
+    let args = c .before .before .before .args in
+    let loop = c .before .loop in
+    holds (args .n) (loop .r) (args .plants .now) (omega arith) (loop .inv .1)
 
 pub plants-fit-spec : {M : Type 1} → statement M
 plants-fit-spec =

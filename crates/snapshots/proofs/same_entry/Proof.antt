@@ -68,7 +68,8 @@ shared-slice-read-if2-2 c = search needs
 
 returns-2 : tie.Need-returns-2
 returns-2 c =
-    let s = c .before .before .before .before .before .before .args in request (s .a .now) (s .b .now) (s .x) (s .y) (c .before .before .before .if1 .left) (c .if2 .taken)
+    let s = c .before .before .before .before .before .before .args in request (s .a .now) (s .b .now) (s .x) (s .y)
+    (c .before .before .before .if1 .left) (c .if2 .taken)
 
 add-if3 : tie.Need-add-if3
 add-if3 c = search needs
@@ -90,7 +91,9 @@ shared-slice-read-if3-2 c = search needs
 
 returns-3 : tie.Need-returns-3
 returns-3 c =
-    let s = c .before .before .before .before .before .before .before .before .before .args in id (s .a .now) (s .b .now) (s .x) (s .y) (c .before .before .before .before .before .before .if1 .left) (c .before .before .before .if2 .left) (c .if3 .taken)
+    let if1 = c .before .before .before .before .before .before .if1 in
+    let s = c .before .before .before .before .before .before .before .before .before .args in id (s .a .now) (s .b .now) (s .x) (s .y) (if1 .left)
+    (c .before .before .before .if2 .left) (c .if3 .taken)
 
 add-if4 : tie.Need-add-if4
 add-if4 c = search needs
@@ -112,15 +115,19 @@ shared-slice-read-if4-2 c = search needs
 
 returns-4 : tie.Need-returns-4
 returns-4 c =
+    let if1 = c .before .before .before .before .before .before .before .before .before .if1 in
+    let if2 = c .before .before .before .before .before .before .if2 in
     let s = c .before .before .before .before .before .before .before .before .before .before .before .before .args in
     sym (ne-eqb (getD (s .a .now) (s .x + 3) 0) (getD (s .b .now) (s .y + 3) 0) (c .if4 .taken))
-    ∙ body (s .a .now) (s .b .now) (s .x) (s .y) (c .before .before .before .before .before .before .before .before .before .if1 .left) (c .before .before .before .before .before .before .if2 .left) (c .before .before .before .if3 .left)
+    ∙ body (s .a .now) (s .b .now) (s .x) (s .y) (if1 .left) (if2 .left) (c .before .before .before .if3 .left)
 
 returns-5 : tie.Need-returns-5
 returns-5 c =
+    let if1 = c .before .before .before .before .before .before .before .before .before .if1 in
+    let if2 = c .before .before .before .before .before .before .if2 in
     let s = c .before .before .before .before .before .before .before .before .before .before .before .before .args in
     sym (eq-eqb (getD (s .a .now) (s .x + 3) 0) (getD (s .b .now) (s .y + 3) 0) (c .if4 .left))
-    ∙ body (s .a .now) (s .b .now) (s .x) (s .y) (c .before .before .before .before .before .before .before .before .before .if1 .left) (c .before .before .before .before .before .before .if2 .left) (c .before .before .before .if3 .left)
+    ∙ body (s .a .now) (s .b .now) (s .x) (s .y) (if1 .left) (if2 .left) (c .before .before .before .if3 .left)
 
 pub same-entry-spec : {M : Type 1} → statement M
 same-entry-spec =

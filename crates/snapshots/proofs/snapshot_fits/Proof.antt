@@ -34,7 +34,11 @@ unfolding snapshotFits
 returns-3 c =
     let a = c .before .before .before .before .before .args in
     c .plants-fit .ensures
-    ∙ rw (eq-eqb (length (a .plants .now)) (a .n * plantWords) (c .before .before .if1 .left), eq-eqb (length (a .logs .now)) (a .n * logWords) (c .before .if2 .left))
+    ∙ rw (
+      eq-eqb (length (a .plants .now)) (a .n * plantWords) (c .before .before .if1 .left),
+      eq-eqb (length (a .logs .now)) (a .n * logWords)
+          (c .before .if2 .left),
+    )
 
 pub snapshot-fits-spec : {M : Type 1} → statement M
 snapshot-fits-spec =

@@ -34,29 +34,41 @@ tracker-words-requires c κs = search needs
 
 returns : tie.Need-returns
 returns c =
-    other-length (c .before .before .before .args .n) (c .before .before .before .args .tracker .now) (λ e. c .if1 .taken (e ∙ sym (c .before .tracker-words .ensures)))
+    let args = c .before .before .before .args in
+    other-length (args .n) (args .tracker .now) (λ e. c .if1 .taken (e ∙ sym (c .before .tracker-words .ensures)))
 
 number-requires : tie.Need-number-requires
 number-requires c κs = search needs
 
 returns-2 : tie.Need-returns-2
 returns-2 c =
-    other-count (c .before .before .before .before .before .args .n) (c .before .before .before .before .before .args .tracker .now) (c .before .before .if1 .left ∙ c .before .before .before .tracker-words .ensures) (λ e. c .if2 .taken (c .before .number .ensures ∙ e))
+    let args = c .before .before .before .before .before .args in
+    other-count (args .n) (args .tracker .now) (c .before .before .if1 .left ∙ c .before .before .before .tracker-words .ensures)
+    (λ e. c .if2 .taken (c .before .number .ensures ∙ e))
 
 number-requires-2 : tie.Need-number-requires-2
 number-requires-2 c κs = search needs
 
 returns-3 : tie.Need-returns-3
 returns-3 c =
-    too-long (c .before .before .before .before .before .before .before .args .n) (c .before .before .before .before .before .before .before .args .tracker .now) (c .before .before .before .before .if1 .left ∙ c .before .before .before .before .before .tracker-words .ensures) (sym (c .before .before .before .number .ensures) ∙ c .before .before .if2 .left) (omega (arith, c .before .number2 .ensures, c .if3 .taken))
+    let args = c .before .before .before .before .before .before .before .args in
+    let the-tracker-words = c .before .before .before .before .before .tracker-words in
+    let if1 = c .before .before .before .before .if1 in
+    too-long (args .n) (args .tracker .now) (if1 .left ∙ the-tracker-words .ensures)
+    (sym (c .before .before .before .number .ensures) ∙ c .before .before .if2 .left) (omega (arith, c .before .number2 .ensures, c .if3 .taken))
 
 lasts-fit-requires : tie.Need-lasts-fit-requires
 lasts-fit-requires c κs = search needs
 
 returns-4 : tie.Need-returns-4
 returns-4 c =
+    let args = c .before .before .before .before .before .before .before .before .args in
+    let the-tracker-words = c .before .before .before .before .before .before .tracker-words in
+    let if1 = c .before .before .before .before .before .if1 in
+    let the-number = c .before .before .before .before .number in
     c .lasts-fit .ensures
-    ∙ else-lasts (c .before .before .before .before .before .before .before .before .args .n) (c .before .before .before .before .before .before .before .before .args .tracker .now) (c .before .before .before .before .before .if1 .left ∙ c .before .before .before .before .before .before .tracker-words .ensures) (sym (c .before .before .before .before .number .ensures) ∙ c .before .before .before .if2 .left) (omega (arith, c .before .before .number2 .ensures, c .before .if3 .left))
+    ∙ else-lasts (args .n) (args .tracker .now) (if1 .left ∙ the-tracker-words .ensures)
+    (sym (the-number .ensures) ∙ c .before .before .before .if2 .left) (omega (arith, c .before .before .number2 .ensures, c .before .if3 .left))
 
 pub tracker-fits-spec : {M : Type 1} → statement M
 tracker-fits-spec =
