@@ -4,7 +4,7 @@ ghost use mathlib.Core.Path.{_≡_};
 ghost use Prim.Native.Nat.{ℕ, _*_, _≤_, _<_};
 ghost use lib.ListN.{length, getD};
 ghost use Rattle.snapshots.specs.Cluster.{sameEntry, entryIn, clusterIn};
-ghost use Rattle.snapshots.specs.Layout.{logWords, entryAt};
+ghost use Rattle.snapshots.specs.Layout.{logWords, entryAt, logEntries};
 ghost use Rattle.snapshots.specs.Shape.{Snapshot};
 ghost use Rattle.verdicts.specs.Verdicts.{firstOf, atEntry};
 ghost use Rattle.convergence.specs.Convergence.{sameValue, convergedWith, converged};
@@ -115,7 +115,7 @@ fn same_value(a: i64, b: i64) -> bool
 
 // The first entry, of the first `size`, in which a plant's log is not the reference's.
 fn same_logs(n: usize, logs: &[u64], reference: usize, id: usize, size: usize) -> Answer
-    requires { ⌜ (n ≤ 15) × (length (now logs) ≡ n * logWords) × (reference < n) × (id < n) × (size ≤ 128) ⌝ }
+    requires { ⌜ (n ≤ 15) × (length (now logs) ≡ n * logWords) × (reference < n) × (id < n) × (size ≤ logEntries) ⌝ }
     ensures { λ a. ⌜ a ≡ firstOf (λ i. atEntry Property.Convergence id i 2 (sameEntry (entryIn (now (logs .entry)) (entryAt id i)) (entryIn (now (logs .entry)) (entryAt reference i)))) 0 size ⌝ }
 {
     let mut i: usize = 0;

@@ -5,7 +5,7 @@ ghost use Prim.Native.Nat.{ℕ, _+_, _-_, _*_, _≤_, _<_};
 ghost use lib.ListN.{length, getD};
 ghost use Rattle.snapshots.specs.Below.{numbered, maxBelow};
 ghost use Rattle.snapshots.specs.Cluster.{wordsOfEntry, wordsOf, entryIn, clusterIn};
-ghost use Rattle.snapshots.specs.Layout.{logWords, plantWords, commitAt, entryAt, canonicalAt, seenAt, trackerWords, laid};
+ghost use Rattle.snapshots.specs.Layout.{logWords, plantWords, commitAt, entryAt, canonicalAt, seenAt, trackerWords, laid, entryWords, logEntries};
 ghost use Rattle.snapshots.specs.Shape.{Snapshot, Tracked, Forward};
 ghost use Rattle.agreement.specs.Agreement.{committer};
 ghost use Rattle.remembering.specs.Remembering.{withIds, remembered};
@@ -63,8 +63,8 @@ fn put_ids(n: usize, plants: &[u64], logs: &[u64], tracker: &mut [u64])
 
 // The ids of a plant's entries from `last` up to `commit`.
 fn put_plant_ids(n: usize, r: usize, last: usize, commit: usize, logs: &[u64], tracker: &mut [u64])
-    requires { ⌜ (n ≤ 15) × (r < n) × (last ≤ commit) × (commit ≤ 128) × (length (now logs) ≡ n * logWords) × (length (now tracker) ≡ trackerWords n) ⌝ }
-    ensures { λ _. ⌜ now (tracker .exit) ≡ laid (now (tracker .entry)) (seenAt n r last) (numbered (commit - last) (λ k. getD (now (logs .entry)) (entryAt r (last + k) + 2) 0)) ⌝ }
+    requires { ⌜ (n ≤ 15) × (r < n) × (last ≤ commit) × (commit ≤ logEntries) × (length (now logs) ≡ n * logWords) × (length (now tracker) ≡ trackerWords n) ⌝ }
+    ensures { λ _. ⌜ now (tracker .exit) ≡ laid (now (tracker .entry)) (seenAt n r last) (numbered (commit - last) (λ k. entryIn (now (logs .entry)) (entryAt r (last + k)) .id)) ⌝ }
 {
     let mut i = last;
     while i < commit {
@@ -77,7 +77,7 @@ fn put_plant_ids(n: usize, r: usize, last: usize, commit: usize, logs: &[u64], t
 // The canonical entries from `known` up to `longest`, each of the first plant that committed it.
 fn append(n: usize, plants: &[u64], logs: &[u64], tracker: &mut [u64], known: usize, longest: usize)
     requires { ⌜ (3 ≤ n) × (n ≤ 15) × (length (now plants) ≡ n * plantWords) × (length (now logs) ≡ n * logWords) × (length (now tracker) ≡ trackerWords n) ⌝ }
-    requires { ⌜ (known ≤ longest) × (longest ≤ 128) ⌝ }
+    requires { ⌜ (known ≤ longest) × (longest ≤ logEntries) ⌝ }
     ensures { λ _. ⌜ ((t : List ℕ) → now (tracker .exit) ≡ laid (now (tracker .entry)) (canonicalAt n known) (wordsOf (numbered (longest - known) (λ k. entryIn (now (logs .entry)) (entryAt (committer (clusterIn n (now (plants .entry)) (now (logs .entry)) t) (known + k)) (known + k)))))) ⌝ }
 {
     let mut i = known;
@@ -90,7 +90,7 @@ fn append(n: usize, plants: &[u64], logs: &[u64], tracker: &mut [u64], known: us
 
 // An entry of the logs over one of the tracker.
 fn copy_entry(logs: &[u64], from: usize, tracker: &mut [u64], to: usize)
-    requires { ⌜ (from + 3 < length (now logs)) × (to + 3 < length (now tracker)) ⌝ }
+    requires { ⌜ (from + entryWords ≤ length (now logs)) × (to + entryWords ≤ length (now tracker)) ⌝ }
     ensures { λ _. ⌜ now (tracker .exit) ≡ laid (now (tracker .entry)) to (wordsOfEntry (entryIn (now (logs .entry)) from)) ⌝ }
 {
     tracker[to] = logs[from];

@@ -77,11 +77,6 @@ all-false (suc n) h k l e =
     no-side true = refl
     no-side false = refl
 
-pub all-same : (n : ℕ) (f g : ℕ → Bool) → ((k : ℕ) → k < n → f k ≡ g k) → allBelow n f ≡ allBelow n g
-unfolding allBelow
-all-same zero f g h = refl
-all-same (suc n) f g h = rw (all-same n f g (λ k l. h k (omega arith)), h n (omega arith))
-
 pub count-none : (h : ℕ → Bool) → countBelow 0 h ≡ 0
 unfolding countBelow
 count-none h = refl

@@ -46,7 +46,7 @@ unfoldable pub wordsOf : List Entry → List ℕ
 wordsOf [] = []
 wordsOf (e ∷ es) = wordsOfEntry e ++ wordsOf es
 
--- what stands where there is no entry or no plant; no definition below depends on it
+-- what stands where there is no entry or no plant; no answer depends on it
 abbrev pub noEntry : Entry
 noEntry = record { client = 0; request = 0; id = 0; body = 0 }
 

@@ -14,10 +14,6 @@ logEntries = 128
 abbrev pub logWords : ℕ
 logWords = logEntries * entryWords
 
--- the op id's place in an entry
-abbrev pub idPlace : ℕ
-idPlace = 2
-
 -- a plant is recovering, commit, op number and log length
 abbrev pub plantWords : ℕ
 plantWords = 4

@@ -5,7 +5,7 @@ ghost use Prim.Native.Nat.{_+_, _*_, _≤_, _<_};
 ghost use lib.ListN.{length, getD};
 ghost use Rattle.snapshots.specs.Cluster.{sameEntry, entryIn};
 ghost use Rattle.snapshots.specs.Fits.{plantCount, plantsFit, snapshotFits, lastsFit, trackerFits};
-ghost use Rattle.snapshots.specs.Layout.{plantWords, trackerWords};
+ghost use Rattle.snapshots.specs.Layout.{plantWords, trackerWords, entryWords};
 
 // An entry is client, request, op id and op body. A log, and the tracker's canonical part, have room for 128.
 pub const ENTRY: usize = 4;
@@ -125,7 +125,7 @@ fn lasts_fit(n: usize, tracker: &[u64]) -> bool
 
 // Two entries are equal in every word.
 pub fn same_entry(a: &[u64], x: usize, b: &[u64], y: usize) -> bool
-    requires { ⌜ (x + 3 < length (now a)) × (y + 3 < length (now b)) ⌝ }
+    requires { ⌜ (x + entryWords ≤ length (now a)) × (y + entryWords ≤ length (now b)) ⌝ }
     ensures { λ s. ⌜ s ≡ sameEntry (entryIn (now (a .entry)) x) (entryIn (now (b .entry)) y) ⌝ }
 {
     if a[x] != b[y] {

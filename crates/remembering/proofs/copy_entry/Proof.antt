@@ -81,7 +81,7 @@ mul-tracker-8 : tie.Need-mul-tracker-8
 mul-tracker-8 c = search needs
 
 slice-write-tracker-4 : tie.Need-slice-write-tracker-4
-slice-write-tracker-4 c = search needs
+slice-write-tracker-4 c = simp length-set (omega arith)
 
 same-length : tie.Need-same-length
 same-length c = search needs

@@ -7,7 +7,7 @@ use Prim.Native.Nat.{ℕ, _+_, _-_, _≤_}
 use lib.ListN.{getD}
 use Rattle.snapshots.specs.Below.{numbered, maxBelow}
 use Rattle.snapshots.specs.Cluster.{wordsOf, plant, entryIn, clusterIn}
-use Rattle.snapshots.specs.Layout.{commitAt, entryAt, canonicalAt, laid}
+use Rattle.snapshots.specs.Layout.{logEntries, commitAt, entryAt, canonicalAt, laid}
 use Rattle.snapshots.specs.Shape.{Snapshot, Tracked, Forward}
 use Rattle.snapshots.proofs.Below.{numbered-same, max-start, max-bound}
 use Rattle.snapshots.proofs.Held.{canonical-long, commit-held}
@@ -19,10 +19,10 @@ use Rattle.remembering.proofs.remember.Tie as tie
 
 module _ (n : ℕ) (p l t : List ℕ) (s : Snapshot n p l) (k : Tracked n t) (f : Forward n p t) (longest : ℕ)
     (m : longest ≡ maxBelow n (λ r. getD p (commitAt r) 0) (getD t 1 0)) where
-  reach : (getD t 1 0 ≤ longest) × (longest ≤ 128)
+  reach : (getD t 1 0 ≤ longest) × (longest ≤ logEntries)
   reach = (
     omega (arith, max-start n (λ r. getD p (commitAt r) 0) (getD t 1 0)),
-    omega (arith, max-bound n (λ r. getD p (commitAt r) 0) (getD t 1 0) 128 (k .canonical) (λ r h. omega (arith, f .within r h, s .sizes r h))),
+    omega (arith, max-bound n (λ r. getD p (commitAt r) 0) (getD t 1 0) logEntries (k .canonical) (λ r h. omega (arith, f .within r h, s .sizes r h))),
   )
 
   all-written : (known : ℕ) (u v w : List ℕ) → known ≡ getD t 1 0 → u ≡ withIds (clusterIn n p l t) n t
