@@ -1,0 +1,18 @@
+-- Property 1, commit-number-monotonic (RULES, "Properties"). Assumes nothing.
+use mathlib.Core.List.{[], _∷_}
+use Prim.Native.Nat.{ℕ}
+use lib.Dec.{leb, eqb}
+use lib.ListN.{length}
+use Rattle.snapshots.specs.Cluster.{Cluster, plant, last}
+use Rattle.verdicts.specs.Verdicts.{firstFailed, overPlants}
+use Rattle.verdicts.specs.declared.Answer.{Answer}
+use Rattle.verdicts.specs.declared.Property.the-variants.{CommitNumber}
+
+-- 1, commit-number-monotonic: op = length; commit ≤ op; commit ≥ last
+unfoldable pub commitTests : ℕ → ℕ → ℕ → ℕ → ℕ → Answer
+commitTests r commit op size lastCommit =
+    firstFailed CommitNumber r 1 (eqb op size ∷ leb commit op ∷ leb lastCommit commit ∷ [])
+
+unfoldable pub commitNumbers : Cluster → Answer
+commitNumbers c =
+    overPlants c (λ r. commitTests r (plant c r .commit) (plant c r .op) (length (plant c r .log)) (last c r))

@@ -1,0 +1,31 @@
+-- `durability::needed_copies` meets its contract: it is the definition's difference, which is 0 below 0. Assumes nothing.
+use borrow.Author.Needs.{needs}
+use native.Mathlib.Omega.{arith}
+use Rattle.durability.proofs.needed_copies.Statement.{statement}
+use Rattle.durability.proofs.needed_copies.Tie as tie
+
+participants-requires : tie.Need-participants-requires
+participants-requires c κs = search needs
+
+add-quorum : tie.Need-add-quorum
+add-quorum c = search needs
+
+add-if1 : tie.Need-add-if1
+add-if1 c = search needs
+
+returns : tie.Need-returns
+returns c = λ l t. omega (arith, c .before .participants .ensures .1 l t)
+
+add-result : tie.Need-add-result
+add-result c = search needs
+
+sub-result : tie.Need-sub-result
+sub-result c = search needs
+
+returns-2 : tie.Need-returns-2
+returns-2 c = λ l t. omega (arith, c .before .participants .ensures .1 l t)
+
+pub needed-copies-spec : {M : Type 1} → statement M
+needed-copies-spec =
+    tie.close
+    (tie.spec participants-requires add-quorum add-if1 returns add-result sub-result returns-2)

@@ -1,0 +1,112 @@
+-- What a tick call that passes has shown, and what the tracker remembers of it. Assumes nothing.
+use borrow.Author.Tests.{lt-ltb, le-ltb}
+use native.Mathlib.Omega.{arith}
+use native.Mathlib.Decide.{decLt}
+use mathlib.Core.Bool.{Bool, true, false}
+use mathlib.Core.List.{List}
+use mathlib.Core.Logic.{_↔_}
+use mathlib.Core.Path.{_≡_, sym, _∙_}
+use Prim.Native.Nat.{ℕ, _-_, _≤_, _<_}
+use lib.IntN.{ℤ}
+use lib.ListN.{length, getD}
+use Rattle.snapshots.specs.Below.{countBelow}
+use Rattle.snapshots.specs.Cluster.{Cluster, noEntry, plant, entry, last, trackerIn, clusterIn}
+use Rattle.snapshots.specs.Layout.{logEntries, commitAt, lastAt, seenAt}
+use Rattle.snapshots.proofs.Below.{max-reaches}
+use Rattle.snapshots.proofs.Held.{commit-held, last-held, seen-held}
+use Rattle.snapshots.proofs.Same.{same-entries}
+use Rattle.verdicts.specs.Verdicts.{andThen, atEntry, overCommitted}
+use Rattle.verdicts.proofs.First.{then-pass, test-holds, first-pass}
+use Rattle.commits.specs.Commits.{commitNumbers}
+use Rattle.agreement.specs.Agreement.{canonicalEntry, agrees}
+use Rattle.duplicates.specs.Duplicates.{idOf}
+use Rattle.durability.specs.Durability.{quorum, holdsCopy}
+use Rattle.durability.proofs.Quorums.{in-every-quorum}
+use Rattle.convergence.proofs.Exactly.{Alike, exactly}
+use Rattle.remembering.specs.Remembering.{lengthAfter, remembered}
+use Rattle.remembering.proofs.After.{after-length, after-canonical, after-new, after-old, nothing-written}
+use Rattle.properties.specs.Calls.{tickRefusal, tickAnswer, tickWords, endRefusal, endAnswer}
+use Rattle.properties.specs.Ticks.{asked, overEntries, judgedEntries, judged}
+use Rattle.properties.proofs.Passed.{tick-known}
+use Rattle.verdicts.specs.declared.Answer.the-variants.{Pass}
+use Rattle.verdicts.specs.declared.Property.{Property}
+use Rattle.verdicts.specs.declared.Property.the-variants.{PrefixAgreement, NoDuplicates, Durability}
+
+-- a property of entries that passes holds of each entry from last commit up
+pub entry-passed : (p : Property) (c : Cluster) → overEntries p c ≡ Pass
+    → (r i : ℕ) → r < c .size → last c r ≤ i → i < plant c r .commit → asked p c r i ≡ true
+unfolding overEntries
+entry-passed p c e r i h l g =
+    test-holds p r i 1 (asked p c r i)
+    (first-pass (λ i. atEntry p r i 1 (asked p c r i)) (last c r) (plant c r .commit - last c r)
+    (first-pass (λ r. overCommitted c r (λ i. atEntry p r i 1 (asked p c r i))) 0 (c .size) e r (omega arith) (omega arith))
+    i l (omega arith))
+
+module _ (n : ℕ) (p l t : List ℕ) (pass : tickAnswer n p l t ≡ Pass) where
+  abbrev c : Cluster
+  c = clusterIn n p l t
+
+  -- the words afterwards are those that a pass writes
+  written : tickWords n p l t ≡ remembered c t
+  unfolding tickWords
+  written = rw pass
+
+  -- each property of entries has passed
+  pub agreement-passed : overEntries PrefixAgreement c ≡ Pass
+  unfolding tickAnswer judged judgedEntries
+  agreement-passed =
+      then-pass (overEntries PrefixAgreement c) (andThen (overEntries NoDuplicates c) (overEntries Durability c))
+      (then-pass (commitNumbers c) (judgedEntries c) (then-pass (tickRefusal n p l t) (judged c) pass .1) .1) .0
+
+  pub durability-passed : overEntries Durability c ≡ Pass
+  unfolding tickAnswer judged judgedEntries
+  durability-passed =
+      then-pass (overEntries NoDuplicates c) (overEntries Durability c)
+      (then-pass (overEntries PrefixAgreement c) (andThen (overEntries NoDuplicates c) (overEntries Durability c))
+      (then-pass (commitNumbers c) (judgedEntries c) (then-pass (tickRefusal n p l t) (judged c) pass .1) .1) .1) .1
+
+  -- every plant's entry at each index from its last commit up to its commit is the canonical entry that is remembered
+  pub agreed : (r i : ℕ) → r < n → last c r ≤ i → i < plant c r .commit
+      → (i < getD (tickWords n p l t) 1 0) × (entry c r i ≡ getD (trackerIn n (tickWords n p l t) .canonical) i noEntry)
+  unfolding agrees lengthAfter
+  agreed r i h a g =
+      let k = tick-known n p l t pass in
+      let b : i < lengthAfter c = omega (arith, max-reaches n (λ r. plant c r .commit) (length (c .tracker .canonical)) r h) in
+      rw written (
+        omega (arith, after-length n p l t (k .0) (k .1) (k .2)),
+        sym (same-entries (canonicalEntry c i) (entry c r i) (entry-passed PrefixAgreement c agreement-passed r i h a g))
+            ∙ sym (after-canonical n p l t (k .0) (k .1) (k .2) i b),
+      )
+
+  -- such an entry is in every quorum that the plants not recovering could form
+  pub held-by-every-quorum : (r i : ℕ) → r < n → last c r ≤ i → i < plant c r .commit
+      → (chosen : ℕ → Bool) → ((q : ℕ) → q < n → chosen q ≡ true → plant c q .recovering ≡ false) → quorum n ≤ countBelow n chosen
+      → (q : ℕ) × (q < n) × (chosen q ≡ true) × (holdsCopy c i (entry c r i) q ≡ true)
+  held-by-every-quorum r i h a g = in-every-quorum c r i (entry-passed Durability c durability-passed r i h a g)
+
+  -- below its commit a plant's ids that are remembered are those that property 4 compared
+  pub ids-remembered : (r i : ℕ) → r < n → i < plant c r .commit → getD (tickWords n p l t) (seenAt n r i) 0 ≡ idOf c r i
+  unfolding idOf
+  ids-remembered r i h g =
+      let k = tick-known n p l t pass in
+      let d : i < getD p (commitAt r) 0 = omega (arith, commit-held n p l t r h) in
+      let o : i < logEntries = omega (arith, k .2 .within r h, k .0 .sizes r h) in
+      rw (written, last-held n p l t r h)
+      (elim (decLt i (getD t (lastAt r) 0)) [
+        | yes b ↦
+            rw (lt-ltb i (getD t (lastAt r) 0) b, seen-held n p l t r h i o) (after-old n p l t (k .0) (k .1) (k .2) r i h o b)
+        | no b ↦ rw (le-ltb i (getD t (lastAt r) 0) (omega arith)) (after-new n p l t (k .0) (k .1) (k .2) r i h o (omega arith) d)
+      ])
+
+  -- with no new commits no word changes
+  pub nothing-new : ((r : ℕ) → r < n → plant c r .commit ≡ last c r) → tickWords n p l t ≡ t
+  nothing-new still =
+      let k = tick-known n p l t pass in
+      written
+      ∙ nothing-written n p l t (k .0) (k .1) (k .2) (λ r h. sym (commit-held n p l t r h) ∙ (still r h ∙ last-held n p l t r h))
+
+-- an end call that is not refused passes exactly if all core plants hold equal logs, fully committed, and equal values
+pub end-exactly : (n : ℕ) (p l : List ℕ) (values : List ℤ) (core t : List ℕ) → endRefusal n p l values core t ≡ Pass
+    → (endAnswer n p l values core t ≡ Pass) ↔ ((k : ℕ) → k < length core → Alike (clusterIn n p l t) values (getD core 0 0) (getD core k 0))
+unfolding endAnswer
+end-exactly n p l values core t e = rw e (exactly (clusterIn n p l t) values core)

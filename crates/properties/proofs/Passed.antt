@@ -1,0 +1,29 @@
+-- What a tick call that passes leaves known of the words. Assumes nothing.
+use mathlib.Core.List.{List}
+use mathlib.Core.Path.{_≡_}
+use Prim.Native.Nat.{ℕ}
+use Rattle.snapshots.specs.Cluster.{clusterIn}
+use Rattle.snapshots.specs.Fits.{plantCount, snapshotFits, trackerFits}
+use Rattle.snapshots.specs.Shape.{Snapshot, Tracked, Forward}
+use Rattle.snapshots.proofs.Known.{snapshot-known, tracker-known}
+use Rattle.verdicts.specs.Verdicts.{andThen, unless}
+use Rattle.verdicts.proofs.First.{then-pass, unless-known}
+use Rattle.commits.specs.Commits.{commitNumbers}
+use Rattle.commits.proofs.Forwards.{forward-known}
+use Rattle.properties.specs.Calls.{tickRefusal, tickAnswer}
+use Rattle.properties.specs.Ticks.{judgedEntries, judged}
+use Rattle.verdicts.specs.declared.Answer.the-variants.{Pass}
+use Rattle.verdicts.specs.declared.Refusal.the-variants.{PlantCount, BadSnapshot, BadTracker}
+
+-- all of it, of a tick call that passes
+pub tick-known : (n : ℕ) (p l t : List ℕ) → tickAnswer n p l t ≡ Pass → Snapshot n p l × Tracked n t × Forward n p t
+unfolding tickAnswer tickRefusal judged
+tick-known n p l t e =
+    let c = clusterIn n p l t in
+    let a = then-pass (tickRefusal n p l t) (judged c) e in
+    let b = then-pass (unless PlantCount (plantCount n)) (andThen (unless BadSnapshot (snapshotFits n p l)) (unless BadTracker (trackerFits n t))) (a .0) in
+    let d = then-pass (unless BadSnapshot (snapshotFits n p l)) (unless BadTracker (trackerFits n t)) (b .1) in (
+      snapshot-known n p l (unless-known PlantCount (plantCount n) (b .0)) (unless-known BadSnapshot (snapshotFits n p l) (d .0)),
+      tracker-known n t (unless-known BadTracker (trackerFits n t) (d .1)),
+      forward-known n p l t (then-pass (commitNumbers c) (judgedEntries c) (a .1) .0),
+    )

@@ -1,0 +1,206 @@
+-- `properties::entries` meets its contract. The outer loop's invariant: what the plants from r on answer is what all answer; the inner one's:
+-- what the entries from i on answer is what all of the plant's newly committed ones answer. Assumes nothing.
+use borrow.Author.Needs.{needs}
+use borrow.Author.Tests.{not-true, not-false}
+use native.Mathlib.Omega.{arith}
+use native.Mathlib.Nat.{sub-zero}
+use mathlib.Core.Logic.{⊎-elim}
+use mathlib.Core.Path.{_≡_, sym, ap, _∙_}
+use Prim.Native.Nat.{ℕ, _-_, _≤_}
+use Rattle.snapshots.specs.Cluster.{Cluster, clusterIn}
+use Rattle.snapshots.proofs.Held.{commit-held, last-held}
+use Rattle.verdicts.specs.Verdicts.{firstOf, atEntry, overCommitted}
+use Rattle.verdicts.proofs.First.{broken-no-pass, first-on, first-stop, first-end}
+use Rattle.properties.specs.Ticks.{asked, overEntries}
+use Rattle.verdicts.specs.declared.Answer.{Answer}
+use Rattle.verdicts.specs.declared.Answer.the-variants.{Broken}
+use Rattle.verdicts.specs.declared.Property.{Property}
+use Rattle.properties.proofs.entries.Statement.{statement}
+use Rattle.properties.proofs.entries.Tie as tie
+
+-- an entry's answer, and a plant's
+abbrev at : Property → Cluster → ℕ → ℕ → Answer
+at property c r i = atEntry property r i 1 (asked property c r i)
+
+abbrev of-plant : Property → Cluster → ℕ → Answer
+of-plant property c r = overCommitted c r (at property c r)
+
+abbrev Inv-indexes : tie.InvT-indexes
+Inv-indexes property needed n plants logs tracker r i₀ commit i = (i ≤ commit) × (of-plant property (clusterIn n plants logs tracker) r ≡ firstOf
+    (at property (clusterIn n plants logs tracker) r) i (commit - i))
+
+abbrev μ-indexes : tie.MeasureT-indexes
+μ-indexes property needed n plants logs tracker r i₀ commit i = commit - i
+
+abbrev Inv-plants : tie.InvT-plants
+Inv-plants property needed n plants logs tracker r₀ i₀ r i = (r ≤ n) × (overEntries property (clusterIn n plants logs tracker) ≡ firstOf
+    (of-plant property (clusterIn n plants logs tracker)) r (n - r))
+
+abbrev μ-plants : tie.MeasureT-plants
+μ-plants property needed n plants logs tracker r₀ i₀ r i = n - r
+
+plants-holds : tie.Need-plants-holds Inv-indexes μ-indexes Inv-plants μ-plants
+unfolding overEntries
+plants-holds c = (omega arith, rw sub-zero)
+
+mul-number : tie.Need-mul-number Inv-indexes μ-indexes Inv-plants μ-plants
+mul-number c =
+    let pre = c .before .before .before .before .before .pre in
+    omega (arith, pre .0 .0 .few)
+
+add-number : tie.Need-add-number Inv-indexes μ-indexes Inv-plants μ-plants
+add-number c =
+    let pre = c .before .before .before .before .before .pre in
+    omega (arith, pre .0 .0 .few)
+
+number-requires : tie.Need-number-requires Inv-indexes μ-indexes Inv-plants μ-plants
+number-requires c κs =
+    let pre = c .before .before .before .before .before .pre in
+    omega (arith, pre .0 .0 .plants)
+
+add-number-2 : tie.Need-add-number-2 Inv-indexes μ-indexes Inv-plants μ-plants
+add-number-2 c =
+    let pre = c .before .before .before .before .before .before .pre in
+    omega (arith, pre .0 .0 .few)
+
+number-requires-2 : tie.Need-number-requires-2 Inv-indexes μ-indexes Inv-plants μ-plants
+number-requires-2 c κs =
+    let pre = c .before .before .before .before .before .before .pre in
+    omega (arith, pre .0 .1 .words)
+
+indexes-holds : tie.Need-indexes-holds Inv-indexes μ-indexes Inv-plants μ-plants
+indexes-holds c =
+    let pre = c .before .before .before .before .before .before .before .pre in
+    let the-number = c .before .number in
+    let a = c .before .before .before .before .before .before .before .args in
+    let h = c .before .before .plants-test .taken in
+    let r = c .before .before .before .plants .r in (
+      omega (arith, the-number .ensures, c .number2 .ensures, pre .0 .2 .onward r h),
+      rw (
+        last-held (a .n) (a .plants .now) (a .logs .now) (a .tracker .now) r h,
+        commit-held (a .n) (a .plants .now) (a .logs .now) (a .tracker .now)
+            r h,
+        the-number .ensures,
+        c .number2 .ensures,
+      ),
+    )
+
+entry-holds-requires : tie.Need-entry-holds-requires Inv-indexes μ-indexes Inv-plants μ-plants
+entry-holds-requires c κs =
+    let pre = c .before .before .before .before .before .before .before .before .before .pre in
+    let the-plants-test = c .before .before .before .before .plants-test in
+    (pre .0, (pre .1, (the-plants-test .taken, omega (arith, c .before .before .before .number .ensures, c .indexes-test .taken))))
+
+add-i : tie.Need-add-i Inv-indexes μ-indexes Inv-plants μ-plants
+add-i c =
+    let pre = c .before .before .before .before .before .before .before .before .before .before .before .pre in
+    let the-plants = c .before .before .before .before .before .before .before .plants in
+    let the-plants-test = c .before .before .before .before .before .before .plants-test in
+    let the-number = c .before .before .before .before .before .number in
+    omega (
+      arith,
+      the-number .ensures,
+      c .before .before .indexes-test .taken,
+      pre .0 .2 .within (the-plants .r) (the-plants-test .taken),
+      pre .0 .0 .sizes (the-plants .r) (the-plants-test .taken),
+    )
+
+indexes-less : tie.Need-indexes-less Inv-indexes μ-indexes Inv-plants μ-plants
+indexes-less c = omega (arith, c .before .before .indexes-test .taken)
+
+indexes-again : tie.Need-indexes-again Inv-indexes μ-indexes Inv-plants μ-plants
+indexes-again c =
+    let the-plants = c .before .before .before .before .before .before .before .plants in
+    let the-number = c .before .before .before .before .before .number in
+    let the-indexes = c .before .before .before .indexes in
+    let the-indexes-test = c .before .before .indexes-test in
+    let a = c .before .before .before .before .before .before .before .before .before .before .before .args in
+    let k = clusterIn (a .n) (a .plants .now) (a .logs .now) (a .tracker .now) in (
+      omega (arith, the-indexes-test .taken),
+      the-indexes .inv .1
+          ∙ first-on (at (a .property) k (the-plants .r)) (the-indexes .i) (the-number .result) (the-indexes-test .taken)
+          (rw (sym (c .before .entry-holds .ensures) ∙ not-false _ (c .if1 .left))),
+    )
+
+add-r : tie.Need-add-r Inv-indexes μ-indexes Inv-plants μ-plants
+add-r c =
+    let pre = c .before .before .before .before .before .before .before .before .before .pre in
+    let the-plants-test = c .before .before .before .before .plants-test in
+    omega (arith, pre .0 .0 .few, the-plants-test .taken)
+
+plants-less : tie.Need-plants-less Inv-indexes μ-indexes Inv-plants μ-plants
+plants-less c =
+    let the-plants-test = c .before .before .before .before .plants-test in
+    omega (arith, the-plants-test .taken)
+
+plants-again : tie.Need-plants-again Inv-indexes μ-indexes Inv-plants μ-plants
+plants-again c =
+    let the-plants = c .before .before .before .before .before .plants in
+    let the-plants-test = c .before .before .before .before .plants-test in
+    let the-indexes = c .before .indexes in
+    let a = c .before .before .before .before .before .before .before .before .before .args in
+    let k = clusterIn (a .n) (a .plants .now) (a .logs .now) (a .tracker .now) in (
+      omega (arith, the-plants-test .taken),
+      the-plants .inv .1
+          ∙ first-on (of-plant (a .property) k) (the-plants .r) (a .n) (the-plants-test .taken)
+          (the-indexes .inv .1 ∙ first-end (at (a .property) k (the-plants .r)) (the-indexes .i) (c .before .before .before .number .result)
+          (c .indexes-test .left)),
+    )
+
+broken-requires : tie.Need-broken-requires Inv-indexes μ-indexes Inv-plants μ-plants
+broken-requires c κs = search needs
+
+returns : tie.Need-returns Inv-indexes μ-indexes Inv-plants μ-plants
+returns c =
+    let the-plants = c .before .before .before .plants in
+    let if2 = c .before .if2 in
+    let a = c .before .before .before .before .before .before .before .args in
+    let k = clusterIn (a .n) (a .plants .now) (a .logs .now) (a .tracker .now) in
+    let r = the-plants .r in
+    ⊎-elim
+    (λ w. absurd (omega (arith, w .0 .left, if2 .taken)))
+    (λ w.
+    c .broken .ensures
+    ∙ (ap (λ (x : ℕ). Broken (a .property) r x 1) (w .7)
+    ∙ sym
+    (the-plants .inv .1
+    ∙ first-stop (of-plant (a .property) k) r (a .n) (Broken (a .property) r (w .3 .i) 1) (if2 .taken)
+    (w .3 .inv .1
+    ∙ first-stop (at (a .property) k r) (w .3 .i) (w .1 .result) (Broken (a .property) r (w .3 .i) 1) (w .4 .taken)
+    (rw (sym (w .5 .ensures) ∙ not-true _ (w .6 .taken)))
+    (broken-no-pass (a .property) r (w .3 .i) 1))
+    (broken-no-pass (a .property) r (w .3 .i) 1))))
+    (c .before .before .plants-test .came)
+
+returns-2 : tie.Need-returns-2 Inv-indexes μ-indexes Inv-plants μ-plants
+returns-2 c =
+    let the-plants = c .before .before .plants in
+    let a = c .before .before .before .before .before .before .args in
+    sym (the-plants .inv .1 ∙ first-end (of-plant (a .property) (clusterIn (a .n) (a .plants .now) (a .logs .now) (a .tracker .now))) (the-plants .r)
+    (a .n) (c .if2 .left))
+
+pub entries-spec : {M : Type 1} → statement M
+entries-spec =
+    tie.close
+    (tie.spec
+    Inv-indexes
+    μ-indexes
+    Inv-plants
+    μ-plants
+    plants-holds
+    mul-number
+    add-number
+    number-requires
+    add-number-2
+    number-requires-2
+    indexes-holds
+    entry-holds-requires
+    add-i
+    indexes-less
+    indexes-again
+    add-r
+    plants-less
+    plants-again
+    broken-requires
+    returns
+    returns-2)

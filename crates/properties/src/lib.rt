@@ -1,0 +1,211 @@
+// The cluster properties that are asked after every tick and at the end of a run, over lent words: a snapshot of
+// the plants with their logs, and a tracker that remembers what earlier ticks have shown. A call judges first and
+// writes after: a break or a refusal leaves the tracker as it came.
+ghost use mathlib.Core.List.{List};
+ghost use mathlib.Core.Path.{_≡_};
+ghost use Prim.Native.Nat.{ℕ, _<_};
+ghost use lib.ListN.{length, getD, replicate};
+ghost use Rattle.snapshots.specs.Cluster.{clusterIn};
+ghost use Rattle.snapshots.specs.Layout.{commitAt};
+ghost use Rattle.snapshots.specs.Shape.{Snapshot, Tracked, Forward};
+ghost use Rattle.durability.specs.Durability.{participants, neededCopies};
+ghost use Rattle.properties.specs.Calls.{freshAnswer, freshWords, rebootAnswer, rebootWords, tickAnswer, tickWords, endAnswer};
+ghost use Rattle.properties.specs.Ticks.{asked, overEntries, judgedEntries, judged};
+use snapshots::COMMIT;
+use snapshots::LASTS;
+use snapshots::PLANT;
+use verdicts::Answer;
+use verdicts::Property;
+use verdicts::Refusal;
+
+// A fresh tracker: n and zeros, in every word.
+pub fn fresh(n: usize, tracker: &mut [u64]) -> Answer
+    ensures answer { λ r. ⌜ r ≡ freshAnswer n (length (now (tracker .entry))) ⌝ }
+    ensures words { λ r. ⌜ now (tracker .exit) ≡ freshWords n (now (tracker .entry)) ⌝ }
+{
+    if !snapshots::plant_count(n) {
+        return Answer::Refused(Refusal::PlantCount);
+    }
+    if tracker.len() != snapshots::tracker_words(n) {
+        return Answer::Refused(Refusal::BadTracker);
+    }
+    clear(tracker);
+    tracker[0] = n as u64;
+    Answer::Pass
+}
+
+// A plant came back without its memory: what was remembered of it starts over.
+pub fn reboot(n: usize, id: usize, tracker: &mut [u64]) -> Answer
+    ensures answer { λ r. ⌜ r ≡ rebootAnswer n id (now (tracker .entry)) ⌝ }
+    ensures words { λ r. ⌜ now (tracker .exit) ≡ rebootWords n id (now (tracker .entry)) ⌝ }
+{
+    if !snapshots::plant_count(n) {
+        return Answer::Refused(Refusal::PlantCount);
+    }
+    if n <= id {
+        return Answer::Refused(Refusal::NoSuchPlant);
+    }
+    if !snapshots::tracker_fits(n, tracker) {
+        return Answer::Refused(Refusal::BadTracker);
+    }
+    tracker[LASTS + id] = 0;
+    Answer::Pass
+}
+
+// After a tick: properties 1, 3, 4 and 6, and on a pass the tracker remembers what was newly committed.
+// With nothing newly committed this looks at the n plants alone. The dear case is 15 plants with 128 new entries
+// each: 4 compares each id with all before it, 15 * 128 * 127 / 2 = 121,920 comparisons of a word, and 6 compares
+// each entry with 15 logs, 15 * 128 * 15 = 28,800 comparisons of an entry.
+pub fn tick(n: usize, plants: &[u64], logs: &[u64], tracker: &mut [u64]) -> Answer
+    ensures answer { λ r. ⌜ r ≡ tickAnswer n (now (plants .entry)) (now (logs .entry)) (now (tracker .entry)) ⌝ }
+    ensures words { λ r. ⌜ now (tracker .exit) ≡ tickWords n (now (plants .entry)) (now (logs .entry)) (now (tracker .entry)) ⌝ }
+{
+    let answer = tick_answer(n, plants, logs, tracker);
+    if let Answer::Pass = answer {
+        remembering::remember(n, plants, logs, tracker);
+    }
+    answer
+}
+
+// At the end of a run: property 7 of the core plants, in the tracker's sight and without a word written.
+pub fn end(
+    n: usize,
+    plants: &[u64],
+    logs: &[u64],
+    values: &[i64],
+    core: &[u64],
+    tracker: &[u64],
+) -> Answer
+    ensures { λ r. ⌜ r ≡ endAnswer n (now (plants .entry)) (now (logs .entry)) (now (values .entry)) (now (core .entry)) (now (tracker .entry)) ⌝ }
+{
+    if !snapshots::plant_count(n) {
+        return Answer::Refused(Refusal::PlantCount);
+    }
+    if !snapshots::snapshot_fits(n, plants, logs) {
+        return Answer::Refused(Refusal::BadSnapshot);
+    }
+    if values.len() != n {
+        return Answer::Refused(Refusal::BadSnapshot);
+    }
+    if !convergence::core_fits(n, core) {
+        return Answer::Refused(Refusal::BadSnapshot);
+    }
+    if !snapshots::tracker_fits(n, tracker) {
+        return Answer::Refused(Refusal::BadTracker);
+    }
+    convergence::convergence(n, plants, logs, values, core, tracker)
+}
+
+// Every word is 0.
+fn clear(words: &mut [u64])
+    ensures { λ _. ⌜ now (words .exit) ≡ replicate (length (now (words .entry))) 0 ⌝ }
+{
+    let mut k: usize = 0;
+    while k < words.len() {
+        words[k] = 0;
+        k += 1;
+    }
+}
+
+// What a tick call answers, with nothing written.
+fn tick_answer(n: usize, plants: &[u64], logs: &[u64], tracker: &[u64]) -> Answer
+    ensures { λ a. ⌜ a ≡ tickAnswer n (now (plants .entry)) (now (logs .entry)) (now (tracker .entry)) ⌝ }
+{
+    if !snapshots::plant_count(n) {
+        return Answer::Refused(Refusal::PlantCount);
+    }
+    if !snapshots::snapshot_fits(n, plants, logs) {
+        return Answer::Refused(Refusal::BadSnapshot);
+    }
+    if !snapshots::tracker_fits(n, tracker) {
+        return Answer::Refused(Refusal::BadTracker);
+    }
+    judge(n, plants, logs, tracker)
+}
+
+// The properties of a tick in their order.
+fn judge(n: usize, plants: &[u64], logs: &[u64], tracker: &[u64]) -> Answer
+    requires { ⌜ Snapshot n (now plants) (now logs) × Tracked n (now tracker) ⌝ }
+    ensures { λ a. ⌜ a ≡ judged (clusterIn n (now (plants .entry)) (now (logs .entry)) (now (tracker .entry))) ⌝ }
+{
+    let numbers = commits::commit_numbers(n, plants, tracker);
+    let Answer::Pass = numbers else {
+        return numbers;
+    };
+    judge_entries(n, plants, logs, tracker)
+}
+
+// Properties 3, 4 and 6: those that ask about each entry newly committed.
+fn judge_entries(n: usize, plants: &[u64], logs: &[u64], tracker: &[u64]) -> Answer
+    requires { ⌜ Snapshot n (now plants) (now logs) × Tracked n (now tracker) × Forward n (now plants) (now tracker) ⌝ }
+    ensures { λ a. ⌜ a ≡ judgedEntries (clusterIn n (now (plants .entry)) (now (logs .entry)) (now (tracker .entry))) ⌝ }
+{
+    let needed = durability::needed_copies(n, plants);
+    let agreement = entries(Property::PrefixAgreement, needed, n, plants, logs, tracker);
+    let Answer::Pass = agreement else {
+        return agreement;
+    };
+    let duplicates = entries(Property::NoDuplicates, needed, n, plants, logs, tracker);
+    let Answer::Pass = duplicates else {
+        return duplicates;
+    };
+    entries(Property::Durability, needed, n, plants, logs, tracker)
+}
+
+// A property of entries: plants rising, then indexes from last commit up, left at the first broken entry with its
+// place. A plant with nothing newly committed costs its two numbers.
+fn entries(
+    property: Property,
+    needed: usize,
+    n: usize,
+    plants: &[u64],
+    logs: &[u64],
+    tracker: &[u64],
+) -> Answer
+    requires { ⌜ Snapshot n (now plants) (now logs) × Tracked n (now tracker) × Forward n (now plants) (now tracker) ⌝ }
+    requires { ⌜ ((l t : List ℕ) → needed ≡ neededCopies n (participants (clusterIn n (now plants) l t))) ⌝ }
+    ensures { λ a. ⌜ a ≡ overEntries property (clusterIn n (now (plants .entry)) (now (logs .entry)) (now (tracker .entry))) ⌝ }
+{
+    let mut r: usize = 0;
+    let mut i: usize = 0;
+    'plants: while r < n {
+        let commit = snapshots::number(plants, r * PLANT + COMMIT);
+        i = snapshots::number(tracker, LASTS + r);
+        'indexes: while i < commit {
+            if !entry_holds(property, needed, n, plants, logs, tracker, r, i) {
+                break 'plants;
+            }
+            i += 1;
+        }
+        r += 1;
+    }
+    if r < n {
+        return verdicts::broken(property, r, i, 1);
+    }
+    Answer::Pass
+}
+
+// What a property asks of an entry newly committed.
+fn entry_holds(
+    property: Property,
+    needed: usize,
+    n: usize,
+    plants: &[u64],
+    logs: &[u64],
+    tracker: &[u64],
+    r: usize,
+    i: usize,
+) -> bool
+    requires { ⌜ Snapshot n (now plants) (now logs) × Tracked n (now tracker) × Forward n (now plants) (now tracker) ⌝ }
+    requires { ⌜ ((l t : List ℕ) → needed ≡ neededCopies n (participants (clusterIn n (now plants) l t))) ⌝ }
+    requires { ⌜ (r < n) × (i < getD (now plants) (commitAt r) 0) ⌝ }
+    ensures { λ b. ⌜ b ≡ asked property (clusterIn n (now (plants .entry)) (now (logs .entry)) (now (tracker .entry))) r i ⌝ }
+{
+    match property {
+        Property::CommitNumber => true,
+        Property::PrefixAgreement => agreement::agrees(n, plants, logs, tracker, r, i),
+        Property::NoDuplicates => duplicates::unseen(n, plants, logs, tracker, r, i),
+        Property::Durability => needed <= durability::copies(n, plants, logs, r, i),
+        Property::Convergence => true,
+    }
+}
