@@ -33,18 +33,18 @@ risen (b ∷ bs) [] = 0
 risen (b ∷ bs) (x ∷ xs) = counted (not b && x) + risen bs xs
 
 -- the plants after the choice
-abbrev pub upAfter : Plants → List ℕ → List Bool
-upAfter s core = inCore core 0 (length (s .up))
+abbrev pub upAfter : List ℕ → List Bool
+upAfter core = inCore core 0 most
 
 unfoldable pub settled : Plants → List ℕ → Plants
 settled s core =
     record {
       n = s .n;
-      up = upAfter s core;
-      partitioned = replicate (length (s .partitioned)) false;
+      up = upAfter core;
+      partitioned = replicate most false;
       «stable_until» = s .«stable_until»;
-      crashes = s .crashes + risen (upAfter s core) (s .up);
-      restarts = s .restarts + risen (s .up) (upAfter s core);
+      crashes = s .crashes + risen (upAfter core) (s .up);
+      restarts = s .restarts + risen (s .up) (upAfter core);
       reboots = s .reboots;
     }
 

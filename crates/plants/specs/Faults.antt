@@ -4,11 +4,11 @@ use mathlib.Core.Bool.{Bool, true, false, not}
 use mathlib.Core.List.{List, [], _∷_}
 use Prim.Native.Nat.{ℕ, _+_}
 use lib.Dec.{ltb}
-use lib.ListN.{getD, set, length, replicate}
+use lib.ListN.{getD, set, replicate}
 use Rattle.script.specs.declared.fault.Fault.{Fault}
 use Rattle.script.specs.declared.fault.Fault.the-variants.{Crash, Restart, Reboot, Partition, Heal, HealAll}
 use Rattle.plants.specs.Refusals.{must, _then_}
-use Rattle.plants.specs.State.{tested, countsFit}
+use Rattle.plants.specs.State.{most, tested, countsFit}
 use Rattle.plants.specs.declared.Plants.{Plants}
 use Rattle.plants.specs.declared.Next.{Next}
 use Rattle.plants.specs.declared.Outcome.{Outcome}
@@ -26,7 +26,7 @@ counted false = 0
 abbrev pub isUp : Plants → ℕ → Bool
 isUp s i = getD (s .up) i false
 
--- a plant up or down from a tick on, with counts risen by so much
+-- a plant up or down from a tick on, with new counts
 abbrev pub turned : Plants → ℕ → Bool → ℕ → ℕ → ℕ → ℕ → Plants
 turned s i flag tick crashes restarts reboots =
     record {
@@ -34,9 +34,9 @@ turned s i flag tick crashes restarts reboots =
       up = set (s .up) i flag;
       partitioned = s .partitioned;
       «stable_until» = set (s .«stable_until») i tick;
-      crashes = s .crashes + crashes;
-      restarts = s .restarts + restarts;
-      reboots = s .reboots + reboots;
+      crashes = crashes;
+      restarts = restarts;
+      reboots = reboots;
     }
 
 -- other plants partitioned, and all else as it was
@@ -54,12 +54,12 @@ parted s flags =
 
 -- the plants after a fault at a tick
 unfoldable pub after : Plants → ℕ → Fault → Plants
-after s tick (Crash i) = turned s i false tick (counted (isUp s i)) 0 0
-after s tick (Restart i) = turned s i true tick 0 (counted (not (isUp s i))) 0
-after s tick (Reboot i) = turned s i true tick 0 1 1
+after s tick (Crash i) = turned s i false tick (s .crashes + counted (isUp s i)) (s .restarts) (s .reboots)
+after s tick (Restart i) = turned s i true tick (s .crashes) (s .restarts + counted (not (isUp s i))) (s .reboots)
+after s tick (Reboot i) = turned s i true tick (s .crashes) (s .restarts + 1) (s .reboots + 1)
 after s tick (Partition i) = parted s (set (s .partitioned) i true)
 after s tick (Heal i) = parted s (set (s .partitioned) i false)
-after s tick HealAll = parted s (replicate (length (s .partitioned)) false)
+after s tick HealAll = parted s (replicate most false)
 
 -- the fault's id is below n: heal-all has none
 unfoldable pub knows : Plants → Fault → Bool

@@ -36,9 +36,12 @@ abbrev pub senderPartitioned : Plants → Origin → Bool
 senderPartitioned s (Replica i) = isPartitioned s i
 senderPartitioned s (Client i) = false
 
-unfoldable pub verdictOf : Plants → Origin → ℕ → Verdict
-verdictOf s from to =
-    cond (isUp s to) (cond (isPartitioned s to || senderPartitioned s from) CutOff Deliver) ReceiverDown
+-- by whether the receiver is up, and whether the receiver and the sender are partitioned
+abbrev pub verdictBy : Bool → Bool → Bool → Verdict
+verdictBy up receiverCut senderCut = cond up (cond (receiverCut || senderCut) CutOff Deliver) ReceiverDown
+
+abbrev pub verdictOf : Plants → Origin → ℕ → Verdict
+verdictOf s from to = verdictBy (isUp s to) (isPartitioned s to) (senderPartitioned s from)
 
 -- the tests 40, 42 and 41, in this order
 unfoldable pub verdictTested : Plants → Origin → ℕ → Test
