@@ -5,7 +5,7 @@ use mathlib.Core.List.{List, [], _∷_, _++_}
 use mathlib.Core.Path.{_≡_, refl, sym, ap, _∙_}
 use Prim.Native.Nat.{ℕ, zero, suc, _-_, _<_, _≤_}
 use native.Mathlib.Omega.{arith}
-use borrow.Author.Tests.{ltb-true}
+use borrow.Author.Tests.{ltb-true, le-leb}
 use lib.ListN.{length, drop, set, replicate, length-replicate}
 use lib.Seq.{drop-set-lt, drop-at}
 use Rattle.script.specs.declared.fault.Fault.{Fault}
@@ -21,7 +21,7 @@ use Rattle.plants.specs.declared.refusal.Refusal.{Refusal}
 use Rattle.plants.specs.declared.refusal.Refusal.the-variants.{UnknownPlant, CountFull, NoNonce}
 use Rattle.plants.specs.declared.refusal.Test.{Test}
 use Rattle.plants.specs.declared.refusal.Test.the-variants.{Passed, Failed}
-use Rattle.plants.proofs.Testing.{both, both-pass, holds, enough, good, by-counts, count-holds, form-holds}
+use Rattle.plants.proofs.Testing.{both, both-pass, holds, not-few, good, by-counts, count-holds, form-holds}
 use Rattle.plants.proofs.Applying.{nonce-missing}
 
 -- ---- what an accepted fault passed
@@ -114,7 +114,7 @@ unfolding countsFit
 fresh-passes n h k =
     let u : noneSet (drop n (replicate n true ++ replicate (most - n) false)) ≡ true =
     rw (drop-at (replicate n true) (replicate (most - n) false) n (length-replicate n true)) (none-left (most - n)) in
-    sym (good (fresh n) (enough n h k) (by-counts (fresh n) u true (none-past n most) refl))
+    sym (good (fresh n) (not-few n h ∙ le-leb n most k) (by-counts (fresh n) u true (none-past n most) refl))
 
 -- a client's id plays no part in a verdict
 any-client : (t : Test) (s : Plants) (i j to : ℕ) → judgedIf t s (Client i) to ≡ judgedIf t s (Client j) to

@@ -28,18 +28,20 @@ pub holds : (b : Bool) (r : Refusal) → must b r ≡ Passed → b ≡ true
 holds true r e = refl
 holds false r e = let z : _≡_ {A = ℕ} 0 1 = cc in absurd (omega arith)
 
--- the number of plants
-pub enough : (n : ℕ) → fewest ≤ n → n ≤ most → plantCount n ≡ true
-unfolding plantCount
-enough n h k = rw (le-leb fewest n h, le-leb n most k)
-
+-- the number of plants, with the code's test of its upper end
 pub too-few : (n : ℕ) → n < fewest → plantCount n ≡ false
 unfolding plantCount
 too-few n h = rw (lt-leb fewest n h)
 
-pub too-many : (n : ℕ) → most < n → plantCount n ≡ false
+pub not-few : (n : ℕ) → fewest ≤ n → plantCount n ≡ leb n most
 unfolding plantCount
-too-many n h = rw (le-leb fewest n (omega arith), lt-leb n most h)
+not-few n h = rw (le-leb fewest n h)
+
+pub between : (n : ℕ) → plantCount n ≡ true → (fewest ≤ n) × (n ≤ most)
+unfolding plantCount
+between n e =
+    let h = both (leb fewest n) (leb n most) e in
+    (leb-true _ _ (h .0), leb-true _ _ (h .1))
 
 -- ---- a state by its tests
 module _ (s : Plants) where
@@ -82,10 +84,7 @@ module _ (s : Plants) (e : tested s ≡ Passed) where
   form-holds = holds (wellFormed s) IllFormed (parts .1)
 
   pub bounds : (fewest ≤ s .n) × (s .n ≤ most)
-  unfolding plantCount
-  bounds =
-      let h = both (leb fewest (s .n)) (leb (s .n) most) count-holds in
-      (leb-true _ _ (h .0), leb-true _ _ (h .1))
+  bounds = between (s .n) count-holds
 
   pub counts : (s .crashes ≤ limit) × (s .restarts ≤ limit) × (s .reboots ≤ limit)
   unfolding wellFormed countsFit

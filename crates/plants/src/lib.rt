@@ -10,7 +10,7 @@ ghost use mathlib.Core.Bool.{true, false};
 ghost use mathlib.Core.List.{_++_};
 ghost use Prim.Native.Nat.{_-_, _≤_, _<_};
 ghost use lib.ListN.{length, drop, replicate, set};
-ghost use Rattle.plants.specs.State.{limit, fresh, made, tested, countsFit, noneSet};
+ghost use Rattle.plants.specs.State.{limit, fresh, made, plantCount, tested, countsFit, noneSet};
 ghost use Rattle.plants.specs.Faults.{after, applied, answered, counted, knows, parted};
 ghost use Rattle.plants.specs.Verdicts.{verdictNumber, verdictBy, judged};
 
@@ -93,6 +93,16 @@ fn count(holds: bool) -> u64
     0
 }
 
+// Whether there may be n plants.
+fn plant_count(n: usize) -> bool
+    ensures { λ r. ⌜ r ≡ plantCount n ⌝ }
+{
+    if n < FEWEST {
+        return false;
+    }
+    n <= MOST
+}
+
 // Whether no flag is set from a place on.
 fn none_set(flags: &[bool; 15], from: usize) -> bool
     requires { ⌜ (length (now flags) ≡ 15) × (from ≤ 15) ⌝ }
@@ -156,13 +166,7 @@ impl Plants {
     pub fn new(n: usize) -> Next
         ensures { λ r. ⌜ r ≡ made n ⌝ }
     {
-        if n < FEWEST {
-            return Next {
-                plants: Plants::fresh(0),
-                outcome: Outcome::Refused(Refusal::PlantCount),
-            };
-        }
-        if MOST < n {
+        if !plant_count(n) {
             return Next {
                 plants: Plants::fresh(0),
                 outcome: Outcome::Refused(Refusal::PlantCount),
@@ -196,10 +200,7 @@ impl Plants {
         ensures { λ r. ⌜ r ≡ tested self ⌝ }
     {
         let n = self.n;
-        if n < FEWEST {
-            return Test::Failed(Refusal::PlantCount);
-        }
-        if MOST < n {
+        if !plant_count(n) {
             return Test::Failed(Refusal::PlantCount);
         }
         if !none_set(&self.up, n) {

@@ -1,32 +1,30 @@
--- `plants::Plants::new` meets its contract: the tests of n, and the fresh plants of n or of none. Assumes nothing.
+-- `plants::Plants::new` meets its contract: the test of n, and the fresh plants of n or of none. Assumes nothing.
+use mathlib.Core.Path.{_≡_, sym, _∙_}
+use native.Mathlib.Omega.{arith}
+use borrow.Author.Tests.{not-true, not-false}
 use Rattle.plants.specs.State.{made}
-use Rattle.plants.proofs.Testing.{enough, too-few, too-many}
+use Rattle.plants.proofs.Testing.{between}
 use borrow.Author.Needs.{needs}
 use Rattle.plants.proofs.Plants.new.Statement.{statement}
 use Rattle.plants.proofs.Plants.new.Tie as tie
+
+plant-count-requires : tie.Need-plant-count-requires
+plant-count-requires c κs = search needs
 
 fresh-requires : tie.Need-fresh-requires
 fresh-requires c κs = search needs
 
 returns : tie.Need-returns
 unfolding made
-returns c = rw (c .fresh .ensures, too-few _ (c .before .if1 .taken))
+returns c = rw (c .fresh .ensures, sym (c .before .before .plant-count .ensures) ∙ not-true _ (c .before .if1 .taken))
 
 fresh-requires-2 : tie.Need-fresh-requires-2
-fresh-requires-2 c κs = search needs
+fresh-requires-2 c κs = between _ (sym (c .before .plant-count .ensures) ∙ not-false _ (c .if1 .left)) .1
 
 returns-2 : tie.Need-returns-2
 unfolding made
-returns-2 c = rw (c .fresh2 .ensures, too-many _ (c .before .if2 .taken))
-
-fresh-requires-3 : tie.Need-fresh-requires-3
-fresh-requires-3 c κs = search needs
-
-returns-3 : tie.Need-returns-3
-unfolding made
-returns-3 c = rw (c .fresh3 .ensures, enough _ (c .before .before .if1 .left) (c .before .if2 .left))
+returns-2 c = rw (c .fresh2 .ensures, sym (c .before .before .plant-count .ensures) ∙ not-false _ (c .before .if1 .left))
 
 pub new-spec : {M : Type 1} → statement M
 new-spec =
-    tie.close
-    (tie.spec fresh-requires returns fresh-requires-2 returns-2 fresh-requires-3 returns-3)
+    tie.close (tie.spec plant-count-requires fresh-requires returns fresh-requires-2 returns-2)
