@@ -4,7 +4,7 @@ use mathlib.Core.Bool.{Bool, true, false, not, _&&_, _||_}
 use mathlib.Core.List.{List, [], _∷_, _++_}
 use Prim.Native.Nat.{ℕ, zero, suc, _+_, _-_}
 use lib.Dec.{leb, eqb}
-use lib.ListN.{length, replicate}
+use lib.ListN.{length, getD, replicate}
 use Rattle.plants.specs.Refusals.{must, _then_}
 use Rattle.plants.specs.State.{most, tested, countsFit}
 use Rattle.plants.specs.Faults.{counted}
@@ -12,7 +12,7 @@ use Rattle.plants.specs.declared.Plants.{Plants}
 use Rattle.plants.specs.declared.refusal.Refusal.the-variants.{CountFull, BadFlags, TooFewPicks, PickOutOfRange, TooFewHealthy}
 use Rattle.plants.specs.declared.refusal.Test.{Test}
 use Rattle.plants.specs.declared.refusal.Test.the-variants.{Passed, Failed}
-use Rattle.liveness.specs.Core.{quorum, picksUsed, coreSize, picksInRange, idsFrom, those, isHealthy, coreOf}
+use Rattle.liveness.specs.Core.{quorum, picksUsed, coreSize, picksInRange, idsFrom, tally, isHealthy, coreOf}
 use Rattle.liveness.specs.declared.Chosen.{Chosen}
 use Rattle.liveness.specs.declared.Choice.the-variants.{Made, Refused}
 
@@ -25,6 +25,9 @@ unfoldable pub inCore : List ℕ → ℕ → ℕ → List Bool
 inCore core i zero = []
 inCore core i (suc k) = member i core ∷ inCore core (suc i) k
 
+abbrev pub isSet : List Bool → ℕ → Bool
+isSet flags id = getD flags id false
+
 -- how many flags are set that were not
 unfoldable pub risen : List Bool → List Bool → ℕ
 risen [] [] = 0
@@ -32,21 +35,26 @@ risen [] (x ∷ xs) = 0
 risen (b ∷ bs) [] = 0
 risen (b ∷ bs) (x ∷ xs) = counted (not b && x) + risen bs xs
 
--- the plants after the choice
+-- which plants are up after the choice
 abbrev pub upAfter : List ℕ → List Bool
 upAfter core = inCore core 0 most
 
-unfoldable pub settled : Plants → List ℕ → Plants
-settled s core =
+-- the plants with these up from now on
+abbrev pub settledBy : Plants → List Bool → Plants
+settledBy s up =
     record {
       n = s .n;
-      up = upAfter core;
+      up = up;
       partitioned = replicate most false;
       «stable_until» = s .«stable_until»;
-      crashes = s .crashes + risen (upAfter core) (s .up);
-      restarts = s .restarts + risen (s .up) (upAfter core);
+      crashes = s .crashes + risen up (s .up);
+      restarts = s .restarts + risen (s .up) up;
       reboots = s .reboots;
     }
+
+-- the plants after the choice
+abbrev pub settled : Plants → List ℕ → Plants
+settled s core = settledBy s (upAfter core)
 
 -- no flag is over 1
 unfoldable pub flagsFit : List ℕ → Bool
@@ -55,16 +63,21 @@ flagsFit (f ∷ fs) = leb f 1 && flagsFit fs
 
 -- how many of n plants are healthy
 unfoldable pub healthyCount : ℕ → List ℕ → ℕ
-healthyCount n flags = length (those (isHealthy flags) (idsFrom 0 n))
+healthyCount n flags = tally (isHealthy flags) (idsFrom 0 n)
 
--- the tests 40, 42, 45, 48, 46, 47 and 43, in this order
-unfoldable pub choiceTested : Plants → List ℕ → List ℕ → Bool → Test
-choiceTested s flags picks full =
+-- the tests before the core is chosen, 40, 42, 45, 48, 46 and 47, in this order
+unfoldable pub lentTested : Plants → List ℕ → List ℕ → Bool → Test
+lentTested s flags picks full =
     tested s
     then must (eqb (length flags) (s .n) && flagsFit flags) BadFlags
     then must (leb (quorum (s .n)) (healthyCount (s .n) flags)) TooFewHealthy
     then must (leb (picksUsed (s .n) full) (length picks)) TooFewPicks
     then must (picksInRange (s .n) picks full) PickOutOfRange
+
+-- and then 43, of the counts after all changes
+unfoldable pub choiceTested : Plants → List ℕ → List ℕ → Bool → Test
+choiceTested s flags picks full =
+    lentTested s flags picks full
     then must (countsFit (settled s (coreOf (s .n) flags picks full))) CountFull
 
 -- the core with zeros past its size

@@ -1,4 +1,4 @@
--- The core of plants that stays up (RULES, "Plants and core"), from the recovering flags (1 for a plant that is recovering) and the lent picks.
+-- The core of plants that stays up (RULES, "Plants and core"), from the recovering flags and the lent picks.
 -- Assumes nothing.
 use mathlib.Core.Bool.{Bool, true, false, cond, not, _&&_, _||_}
 use mathlib.Core.List.{List, [], _∷_, _++_}
@@ -47,28 +47,35 @@ unfoldable pub those : (ℕ → Bool) → List ℕ → List ℕ
 those test [] = []
 those test (x ∷ xs) = cond (test x) (x ∷ those test xs) (those test xs)
 
-abbrev pub isRecovering : List ℕ → ℕ → Bool
-isRecovering flags id = eqb (getD flags id 0) 1
+-- how many pass a test
+abbrev pub tally : (ℕ → Bool) → List ℕ → ℕ
+tally test l = length (those test l)
+
+-- a plant's flag: 1 if it is recovering, 0 if it is healthy
+abbrev pub hasFlag : List ℕ → ℕ → ℕ → Bool
+hasFlag flags flag id = eqb (getD flags id 0) flag
 
 abbrev pub isHealthy : List ℕ → ℕ → Bool
-isHealthy flags id = not (isRecovering flags id)
+isHealthy flags id = hasFlag flags 0 id
+
+abbrev pub isRecovering : List ℕ → ℕ → Bool
+isRecovering flags id = hasFlag flags 1 id
 
 -- the plants shuffled
-unfoldable pub candidates : ℕ → List ℕ → Bool → List ℕ
-candidates n picks full = shuffled (firstPicks picks full) (idsFrom 0 n)
+abbrev pub candidates : ℕ → List ℕ → List ℕ
+candidates n picks = shuffled picks (idsFrom 0 n)
 
--- the first quorum of healthy candidates, and the filler: the other healthy, then the recovering
-unfoldable pub staying : ℕ → List ℕ → List ℕ → List ℕ
+-- of the candidates the first quorum of healthy ones, and the filler: the other healthy, then the recovering
+abbrev pub staying : ℕ → List ℕ → List ℕ → List ℕ
 staying n flags ids = take (quorum n) (those (isHealthy flags) ids)
 
-unfoldable pub filler : ℕ → List ℕ → List ℕ → List ℕ
+abbrev pub filler : ℕ → List ℕ → List ℕ → List ℕ
 filler n flags ids = drop (quorum n) (those (isHealthy flags) ids) ++ those (isRecovering flags) ids
 
--- the plants in the order in which the core takes them: those that stay, and the filler, shuffled likewise
-unfoldable pub lineUp : ℕ → List ℕ → List ℕ → Bool → List ℕ
-lineUp n flags picks full =
-    let ids = candidates n picks full in
-    staying n flags ids ++ shuffled (secondPicks n picks full) (filler n flags ids)
+-- the plants in the order in which the core takes them, from the picks of the two shuffles: those that stay, and the filler, shuffled likewise
+unfoldable pub lineUp : ℕ → List ℕ → List ℕ → List ℕ → List ℕ
+lineUp n flags first second =
+    staying n flags (candidates n first) ++ shuffled second (filler n flags (candidates n first))
 
 -- sorted, by insertion of one after the other
 unfoldable pub inserted : ℕ → List ℕ → List ℕ
@@ -81,4 +88,5 @@ sorted (x ∷ xs) = inserted x (sorted xs)
 
 -- the core: cut to size, and sorted
 unfoldable pub coreOf : ℕ → List ℕ → List ℕ → Bool → List ℕ
-coreOf n flags picks full = sorted (take (coreSize n picks full) (lineUp n flags picks full))
+coreOf n flags picks full =
+    sorted (take (coreSize n picks full) (lineUp n flags (firstPicks picks full) (secondPicks n picks full)))

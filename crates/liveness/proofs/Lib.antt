@@ -1,0 +1,7 @@
+-- Laws that belong to no one function.
+pub mod Tallies
+pub mod Ids
+pub mod Shuffling
+pub mod Walks
+pub mod Marking
+pub mod Lining
