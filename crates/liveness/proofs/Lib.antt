@@ -5,3 +5,6 @@ pub mod Shuffling
 pub mod Walks
 pub mod Marking
 pub mod Lining
+pub mod Ranges
+pub mod Lending
+pub mod Sorting

@@ -14,8 +14,8 @@ ghost use lib.ListN.{length, take, drop, replicate};
 ghost use Rattle.plants.specs.State.{limit};
 ghost use Rattle.plants.specs.Faults.{counted};
 ghost use Rattle.liveness.specs.Shuffle.{shuffled, picksWithin};
-ghost use Rattle.liveness.specs.Core.{quorum, sizePicks, picksUsed, coreSize, picksInRange, idsFrom, those, tally, hasFlag, isHealthy, isRecovering, candidates, staying, filler, lineUp};
-ghost use Rattle.liveness.specs.Choice.{flagsFit, healthyCount, lentTested, inCore, isSet, risen, settledBy, padded, chosen};
+ghost use Rattle.liveness.specs.Core.{quorum, sizePicks, picksUsed, coreSize, picksInRange, idsFrom, those, tally, hasFlag, isHealthy, isRecovering, candidates, staying, filler, lineUp, coreOf};
+ghost use Rattle.liveness.specs.Choice.{flagsFit, healthyCount, lentTested, inCore, upAfter, isSet, risen, settledBy, padded, chosen};
 
 // A core of so many plants, chosen by so many picks, or why there is none.
 pub enum Choice {
@@ -272,6 +272,19 @@ fn members(ids: &[u64]) -> [bool; 15]
     flags
 }
 
+// Which plants are in the core that the picks choose.
+fn in_core(n: usize, recovering: &[u64], picks: &[u64], full: bool) -> [bool; 15]
+    requires { ⌜ (3 ≤ n) × (n ≤ 15) × (length (now recovering) ≡ n) × (flagsFit (now recovering) ≡ true) × (quorum n ≤ healthyCount n (now recovering)) ⌝ }
+    requires { ⌜ (picksUsed n full ≤ length (now picks)) × (picksInRange n (now picks) full ≡ true) ⌝ }
+    ensures { λ r. ⌜ r ≡ upAfter (coreOf n (now (recovering .entry)) (now (picks .entry)) full) ⌝ }
+{
+    let size = core_size(n, picks, full);
+    let first = size_picks(full);
+    let second = first + (n - 1);
+    let line = line_up(n, recovering, &picks[first..], &picks[second..]);
+    members(&line[..size])
+}
+
 // The plants whose flag is set, rising, and zeros.
 fn rising(flags: &[bool; 15]) -> [u64; 15]
     requires { ⌜ length (now flags) ≡ 15 ⌝ }
@@ -348,11 +361,7 @@ pub fn choose_core(plants: Plants, recovering: &[u64], picks: &[u64], full: bool
         };
     }
     let n = plants.n;
-    let size = core_size(n, picks, full);
-    let first = size_picks(full);
-    let second = first + (n - 1);
-    let line = line_up(n, recovering, &picks[first..], &picks[second..]);
-    let up = members(&line[..size]);
+    let up = in_core(n, recovering, picks, full);
     let next = settled(plants, up);
     if !next.counts_fit() {
         return Chosen {
@@ -362,6 +371,7 @@ pub fn choose_core(plants: Plants, recovering: &[u64], picks: &[u64], full: bool
         };
     }
     let core = rising(&up);
+    let size = core_size(n, picks, full);
     let used = picks_used(n, full);
     Chosen {
         plants: next,

@@ -1,104 +1,103 @@
+-- `liveness::picks_in_range` meets its contract: the size first, then the picks of the two shuffles. Assumes nothing.
+use mathlib.Core.Path.{_≡_, refl, sym, ap, _∙_}
+use native.Mathlib.Omega.{arith}
+use borrow.Author.Tests.{not-true, not-false}
+use Prim.Native.Nat.{_+_, _-_}
+use lib.ListN.{length, length-drop}
+use Rattle.liveness.proofs.Ranges.{rest, one-pick, too-small, too-large, first-out, by-second}
 use borrow.Author.Needs.{needs}
 use Rattle.liveness.proofs.picks_in_range.Statement.{statement}
 use Rattle.liveness.proofs.picks_in_range.Tie as tie
-use Rattle.liveness.proofs.picks_in_range.Reads as reads
-use Rattle.liveness.proofs.picks_in_range.Lts as lts
-use Rattle.liveness.proofs.core_size.Reads as core-size-reads
-use Rattle.liveness.proofs.picks_within.Reads as picks-within-reads
-use Rattle.liveness.proofs.quorum.Reads as quorum-reads
-use Rattle.liveness.proofs.size_picks.Reads as size-picks-reads
 
--- src/lib.rt:114:9
 core-size-requires : tie.Need-core-size-requires
 core-size-requires c κs = search needs
 
--- src/lib.rt:115:15
 quorum-requires : tie.Need-quorum-requires
 quorum-requires c κs = search needs
 
--- src/lib.rt:116:9
 returns : tie.Need-returns
-returns c = ?
+returns c =
+    let s = c .before .before .before .before .args in
+    too-small (s .n) (s .picks .now) (s .full) (c .before .before .core-size .result) (c .before .before .core-size .ensures) (omega (arith, c .if1 .taken, c .before .quorum .ensures))
 
--- src/lib.rt:119:9
 returns-2 : tie.Need-returns-2
-returns-2 c = ?
+returns-2 c =
+    let s = c .before .before .before .before .before .args in
+    too-large (s .n) (s .picks .now) (s .full) (c .before .before .before .core-size .result) (c .before .before .before .core-size .ensures) (omega (arith, c .before .if1 .left, c .before .before .quorum .ensures)) (c .if2 .taken)
 
--- src/lib.rt:121:9
 size-picks-requires : tie.Need-size-picks-requires
 size-picks-requires c κs = search needs
 
--- src/lib.rt:122:22
 mul-picks-within : tie.Need-mul-picks-within
 mul-picks-within c = search needs
 
--- src/lib.rt:122:22
 sub-picks-within : tie.Need-sub-picks-within
 sub-picks-within c = search needs
 
--- src/lib.rt:122:22
 part-picks-within-start : tie.Need-part-picks-within-start
 part-picks-within-start c = search needs
 
--- src/lib.rt:122:22
 part-picks-within-end : tie.Need-part-picks-within-end
 part-picks-within-end c = search needs
 
--- src/lib.rt:122:39
 sub-picks-within-2 : tie.Need-sub-picks-within-2
 sub-picks-within-2 c = search needs
 
--- src/lib.rt:122:9
 picks-within-requires : tie.Need-picks-within-requires
 picks-within-requires c κs = search needs
 
--- src/lib.rt:123:9
 returns-3 : tie.Need-returns-3
-returns-3 c = ?
+returns-3 c =
+    let s = c .before .before .before .before .before .before .before .before .before .args in
+    let f = c .before .before .before in
+    let d = f .before .before .before .before in
+    first-out (s .n) (s .picks .now) (s .full) (d .core-size .result) (d .core-size .ensures)
+    (omega (arith, f .before .before .if1 .left, f .before .before .before .quorum .ensures)) (f .before .if2 .left) (f .size-picks .result) (f .size-picks .ensures)
+    (sym (c .before .picks-within .ensures) ∙ not-true _ (c .if3 .taken))
 
--- src/lib.rt:125:27
 sub-second : tie.Need-sub-second
 sub-second c = search needs
 
--- src/lib.rt:125:18
 add-second : tie.Need-add-second
 add-second c = search needs
 
--- src/lib.rt:126:18
 mul-picks-within-2 : tie.Need-mul-picks-within-2
 mul-picks-within-2 c = search needs
 
--- src/lib.rt:126:18
 sub-picks-within-3 : tie.Need-sub-picks-within-3
 sub-picks-within-3 c = search needs
 
--- src/lib.rt:126:18
 part-picks-within-start-2 : tie.Need-part-picks-within-start-2
 part-picks-within-start-2 c = search needs
 
--- src/lib.rt:126:18
 part-picks-within-end-2 : tie.Need-part-picks-within-end-2
 part-picks-within-end-2 c = search needs
 
--- src/lib.rt:126:40
 quorum-requires-2 : tie.Need-quorum-requires-2
 quorum-requires-2 c κs = search needs
 
--- src/lib.rt:126:36
 sub-picks-within-4 : tie.Need-sub-picks-within-4
 sub-picks-within-4 c = search needs
 
--- src/lib.rt:126:36
 sub-picks-within-5 : tie.Need-sub-picks-within-5
 sub-picks-within-5 c = search needs
 
--- src/lib.rt:126:5
 picks-within-requires-2 : tie.Need-picks-within-requires-2
-picks-within-requires-2 c κs = ?
+picks-within-requires-2 c κs =
+    let s = c .before .before .before .before .before .before .before .before .before .before .before .args in
+    let f = c .before .before .before .before .before .size-picks in
+    let second = f .result + (s .n - 1) in
+    omega (arith, c .quorum2 .ensures, f .ensures, ap length (rest (s .picks .now) second), length-drop second (s .picks .now), c .before .before .before .before .before .before .before .before .before .before .before .pre)
 
--- src/lib.rt:110:1
 returns-4 : tie.Need-returns-4
-returns-4 c = ?
+returns-4 c =
+    let s = c .before .before .before .before .before .before .before .before .before .before .before .before .args in
+    let f = c .before .before .before .before .before .before in
+    let d = f .before .before .before .before in
+    c .picks-within2 .ensures
+    ∙ by-second (s .n) (s .picks .now) (s .full) (d .core-size .result) (d .core-size .ensures)
+    (omega (arith, f .before .before .if1 .left, f .before .before .before .quorum .ensures)) (f .before .if2 .left) (f .size-picks .result) (f .size-picks .ensures)
+    (c .before .quorum2 .result) (c .before .quorum2 .ensures) (sym (c .before .before .before .before .picks-within .ensures) ∙ not-false _ (c .before .before .before .if3 .left))
 
 pub picks-in-range-spec : {M : Type 1} → statement M
 picks-in-range-spec =
