@@ -7,13 +7,13 @@ use borrow.Author.Tests.{le-leb, lt-leb, leb-true, eq-eqb, ne-eqb, eqb-true}
 use lib.Dec.{leb, eqb}
 use lib.ListN.{length}
 use Rattle.plants.specs.Refusals.{must, _then_}
-use Rattle.plants.specs.State.{tested}
+use Rattle.plants.specs.State.{fewest, most, tested}
 use Rattle.plants.specs.declared.Plants.{Plants}
 use Rattle.plants.specs.declared.refusal.Refusal.{Refusal}
 use Rattle.plants.specs.declared.refusal.Refusal.the-variants.{BadFlags, TooFewHealthy, TooFewPicks, PickOutOfRange}
 use Rattle.plants.specs.declared.refusal.Test.{Test}
 use Rattle.plants.specs.declared.refusal.Test.the-variants.{Passed, Failed}
-use Rattle.plants.proofs.Testing.{both, both-pass, holds}
+use Rattle.plants.proofs.Testing.{both, both-pass, holds, bounds}
 use Rattle.liveness.specs.Core.{quorum, picksUsed, picksInRange}
 use Rattle.liveness.specs.Choice.{flagsFit, healthyCount, lentTested}
 
@@ -50,16 +50,17 @@ module _ (s : Plants) (flags picks : List ℕ) (full : Bool) where
               rw
               (e, eq-eqb (length flags) (s .n) m, f, le-leb (quorum (s .n)) (healthyCount (s .n) flags) h, le-leb (picksUsed (s .n) full) (length picks) k, r)
 
--- what holds where all tests passed
-pub record Lent (s : Plants) (flags picks : List ℕ) (full : Bool) : Type 0 where
-  pub state : tested s ≡ Passed
-  pub same : length flags ≡ s .n
+-- what n plants, their flags and the picks are where all tests passed
+pub record Ready (n : ℕ) (flags picks : List ℕ) (full : Bool) : Type 0 where
+  pub few : fewest ≤ n
+  pub many : n ≤ most
+  pub same : length flags ≡ n
   pub fit : flagsFit flags ≡ true
-  pub healthy : quorum (s .n) ≤ healthyCount (s .n) flags
-  pub enough : picksUsed (s .n) full ≤ length picks
-  pub within : picksInRange (s .n) picks full ≡ true
+  pub healthy : quorum n ≤ healthyCount n flags
+  pub enough : picksUsed n full ≤ length picks
+  pub within : picksInRange n picks full ≡ true
 
-pub lent-passed : (s : Plants) (flags picks : List ℕ) (full : Bool) → lentTested s flags picks full ≡ Passed → Lent s flags picks full
+pub lent-passed : (s : Plants) (flags picks : List ℕ) (full : Bool) → lentTested s flags picks full ≡ Passed → (tested s ≡ Passed) × Ready (s .n) flags picks full
 unfolding lentTested
 lent-passed s flags picks full e =
     let range = must (picksInRange (s .n) picks full) PickOutOfRange in
@@ -70,12 +71,15 @@ lent-passed s flags picks full e =
     let b = both-pass good (well then many then range) (a .1) in
     let c = both-pass well (many then range) (b .1) in
     let d = both-pass many range (c .1) in
-    let g = both (eqb (length flags) (s .n)) (flagsFit flags) (holds (eqb (length flags) (s .n) && flagsFit flags) BadFlags (b .0)) in
-    record {
-      state = a .0;
-      same = eqb-true (length flags) (s .n) (g .0);
-      fit = g .1;
-      healthy = leb-true _ _ (holds (leb (quorum (s .n)) (healthyCount (s .n) flags)) TooFewHealthy (c .0));
-      enough = leb-true _ _ (holds (leb (picksUsed (s .n) full) (length picks)) TooFewPicks (d .0));
-      within = holds (picksInRange (s .n) picks full) PickOutOfRange (d .1);
-    }
+    let g = both (eqb (length flags) (s .n)) (flagsFit flags) (holds (eqb (length flags) (s .n) && flagsFit flags) BadFlags (b .0)) in (
+      a .0,
+      record {
+        few = bounds s (a .0) .0;
+        many = bounds s (a .0) .1;
+        same = eqb-true (length flags) (s .n) (g .0);
+        fit = g .1;
+        healthy = leb-true _ _ (holds (leb (quorum (s .n)) (healthyCount (s .n) flags)) TooFewHealthy (c .0));
+        enough = leb-true _ _ (holds (leb (picksUsed (s .n) full) (length picks)) TooFewPicks (d .0));
+        within = holds (picksInRange (s .n) picks full) PickOutOfRange (d .1);
+      },
+    )

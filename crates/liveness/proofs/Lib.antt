@@ -8,3 +8,4 @@ pub mod Lining
 pub mod Ranges
 pub mod Lending
 pub mod Sorting
+pub mod Choosing

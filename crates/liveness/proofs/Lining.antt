@@ -63,7 +63,7 @@ module _ (a b : List ℕ) (k : ℕ) (h : k ≤ length a) where
   put-back : (l new : List ℕ) → l ≡ take k (a ++ b) ++ (new ++ drop (length (a ++ b) - k) (drop k (a ++ b))) → l ≡ take k a ++ new
   put-back l new e =
       let none : drop (length (a ++ b) - k) (drop k (a ++ b)) ≡ [] =
-          drop-of-length-le (drop k (a ++ b)) {i = length (a ++ b) - k} (simp (length-append, length-drop) (omega arith)) in
+      drop-of-length-le (drop k (a ++ b)) {i = length (a ++ b) - k} (simp (length-append, length-drop) (omega arith)) in
       e ∙ (ap (λ (x : List ℕ). x ++ (new ++ drop (length (a ++ b) - k) (drop k (a ++ b)))) (take-append-le k a b h)
       ∙ (ap (λ (x : List ℕ). take k a ++ (new ++ x)) none ∙ ap (λ (x : List ℕ). take k a ++ x) (append-nil new)))
 
@@ -113,14 +113,15 @@ module _ (n : ℕ) (flags first second : List ℕ) (fit : flagsFit flags ≡ tru
       let stay = take (quorum n) healthy in
       let left = filler n flags ids in
       let moved = shuffle-permutes second left (rw filler-length second-within) test in
-      omega
-      (arith,
-      tally-append test stay (shuffled second left),
-      moved,
-      tally-append test (drop (quorum n) healthy) others,
-      tally-parts test (quorum n) healthy,
-      tally-split test (isHealthy flags) (isRecovering flags) (apart flags fit) ids,
-      dealt test)
+      omega (
+        arith,
+        tally-append test stay (shuffled second left),
+        moved,
+        tally-append test (drop (quorum n) healthy) others,
+        tally-parts test (quorum n) healthy,
+        tally-split test (isHealthy flags) (isRecovering flags) (apart flags fit) ids,
+        dealt test,
+      )
 
   pub line-length : length (lineUp n flags first second) ≡ n
   line-length = same-length (lineUp n flags first second) (idsFrom 0 n) line-permutes ∙ length-ids 0 n
@@ -138,9 +139,10 @@ module _ (n : ℕ) (flags first second : List ℕ) (fit : flagsFit flags ≡ tru
         × (((quorum (length ids) ≤ tally (isHealthy flags) ids) × (quorum (length ids) < length ids))
         × ((length ids - quorum (length ids) ≤ length second + 1) × (picksWithin (length ids - quorum (length ids) - 1) second ≡ true)))
     ready k h few long =
-        let m = ids-length in
-        ((ids-known, fit, h ∙ sym m),
-        (rw m (rw e healthy-enough, omega arith), rw m (omega arith, second-within)))
+        let m = ids-length in (
+          (ids-known, fit, h ∙ sym m),
+          (rw m (rw e healthy-enough, omega arith), rw m (omega arith, second-within)),
+        )
 
     pub lined-up : (line rest : List ℕ) → line ≡ staying (length ids) flags ids ++ shuffled second (filler (length ids) flags ids) → line ++ rest ≡ lineUp n flags first second ++ rest
     unfolding lineUp

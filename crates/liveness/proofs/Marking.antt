@@ -45,18 +45,18 @@ module _ (l : List ℕ) (y k : ℕ) (h : y < k) where
   same-flag : (i : ℕ) → i < k → getD (set (inCore l 0 k) y true) i false ≡ getD (inCore (l ++ y ∷ []) 0 k) i false
   same-flag i m =
       let after : getD (inCore (l ++ y ∷ []) 0 k) i false ≡ (member i l || eqb i y) =
-          flag-of (l ++ y ∷ []) 0 k i m ∙ (ap (λ (x : ℕ). member x (l ++ y ∷ [])) (zero-add i) ∙ member-more i y l) in
+      flag-of (l ++ y ∷ []) 0 k i m ∙ (ap (λ (x : ℕ). member x (l ++ y ∷ [])) (zero-add i) ∙ member-more i y l) in
       let q : y < length (inCore l 0 k) = omega (arith, length-flags l 0 k) in
       elim (ℕ-discrete i y) [
-        yes e ↦
-        ap (λ (x : ℕ). getD (set (inCore l 0 k) y true) x false) e
-        ∙ (getD-set-same (inCore l 0 k) y true false q
-        ∙ sym (after ∙ (ap (λ (b : Bool). member i l || b) (eq-eqb i y e) ∙ or-true (member i l))))
+        | yes e ↦
+            ap (λ (x : ℕ). getD (set (inCore l 0 k) y true) x false) e
+            ∙ (getD-set-same (inCore l 0 k) y true false q
+            ∙ sym (after ∙ (ap (λ (b : Bool). member i l || b) (eq-eqb i y e) ∙ or-true (member i l))))
         | no e ↦
-        getD-set-other (inCore l 0 k) y i true false e
-        ∙ (flag-of l 0 k i m
-        ∙ (ap (λ (x : ℕ). member x l) (zero-add i)
-        ∙ sym (after ∙ (ap (λ (b : Bool). member i l || b) (ne-eqb i y e) ∙ or-false (member i l)))))
+            getD-set-other (inCore l 0 k) y i true false e
+            ∙ (flag-of l 0 k i m
+            ∙ (ap (λ (x : ℕ). member x l) (zero-add i)
+            ∙ sym (after ∙ (ap (λ (b : Bool). member i l || b) (ne-eqb i y e) ∙ or-false (member i l)))))
       ]
 
   mark : set (inCore l 0 k) y true ≡ inCore (l ++ y ∷ []) 0 k

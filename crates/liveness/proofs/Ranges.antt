@@ -34,7 +34,7 @@ module _ (n : ℕ) (picks : List ℕ) (full : Bool) (size : ℕ) (e : size ≡ c
       unfolding picksInRange
       first-out w =
           let v : picksWithin (n - 1) (drop (sizePicks full) picks) ≡ false =
-              sym (ap (picksWithin (n - 1)) (rest picks first ∙ ap (λ (k : ℕ). drop k picks) f)) ∙ w in
+          sym (ap (picksWithin (n - 1)) (rest picks first ∙ ap (λ (k : ℕ). drop k picks) f)) ∙ w in
           rw (← e, le-leb (quorum n) size low, le-leb size n high, v)
 
       pub by-second : (q : ℕ) → q ≡ quorum n → picksWithin (n - 1) (take (length picks - first) (drop first picks)) ≡ true
@@ -42,6 +42,6 @@ module _ (n : ℕ) (picks : List ℕ) (full : Bool) (size : ℕ) (e : size ≡ c
       unfolding picksInRange
       by-second q g w =
           let v : picksWithin (n - 1) (drop (sizePicks full) picks) ≡ true =
-              sym (ap (picksWithin (n - 1)) (rest picks first ∙ ap (λ (k : ℕ). drop k picks) f)) ∙ w in
+          sym (ap (picksWithin (n - 1)) (rest picks first ∙ ap (λ (k : ℕ). drop k picks) f)) ∙ w in
           ap (picksWithin (n - q - 1)) (rest picks (first + (n - 1)))
           ∙ rw (← e, le-leb (quorum n) size low, le-leb size n high, v, f, g)

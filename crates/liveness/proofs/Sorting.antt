@@ -99,10 +99,10 @@ module _ (p : ℕ → Bool) (x : ℕ) where
   insert-those none a zero h m = absurd (omega arith)
   insert-those none a (suc k) h m =
       elim (ℕ-discrete a x) [
-        yes e ↦ here-step a k none e
+        | yes e ↦ here-step a k none e
         | no e ↦
-        past-step (p a) a (those p (idsFrom (suc a) k)) (those or-it (idsFrom (suc a) k)) (omega arith) (insert-those none (suc a) k (omega arith) (omega arith))
-        ∙ rw (ne-eqb a x e)
+            past-step (p a) a (those p (idsFrom (suc a) k)) (those or-it (idsFrom (suc a) k)) (omega arith) (insert-those none (suc a) k (omega arith) (omega arith))
+            ∙ rw (ne-eqb a x e)
       ]
 
 -- none is there twice

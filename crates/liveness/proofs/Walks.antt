@@ -94,9 +94,10 @@ put-next front l c v e h =
 
 -- one more, or not
 pub written-more : (front next l r : List ℕ) (c v : ℕ) → c < length l → next ≡ front ++ v ∷ [] → Written front l c r → Written next l (c + 1) (set r c v)
-written-more front next l r c v h n w =
-    (ap length n ∙ (length-append front (v ∷ []) ∙ omega (arith, w .0)),
-    ap (λ (x : List ℕ). set x c v) (w .1) ∙ (put-next front l c v (w .0) h ∙ ap (λ (x : List ℕ). x ++ drop (c + 1) l) (sym n)))
+written-more front next l r c v h n w = (
+  ap length n ∙ (length-append front (v ∷ []) ∙ omega (arith, w .0)),
+  ap (λ (x : List ℕ). set x c v) (w .1) ∙ (put-next front l c v (w .0) h ∙ ap (λ (x : List ℕ). x ++ drop (c + 1) l) (sym n)),
+)
 
 pub written-same : (front next l r : List ℕ) (c : ℕ) → next ≡ front ++ [] → Written front l c r → Written next l c r
 written-same front next l r c n w =
@@ -111,12 +112,13 @@ module _ (test : ℕ → Bool) (ids l : List ℕ) (at : ℕ) (fits : at + tally 
   pub has-room : (i c : ℕ) → i < length ids → test (getD ids i 0) ≡ true → length (take at l ++ those test (take i ids)) ≡ c → c < length l
   has-room i c h e w =
       let more = ap length (those-more test ids i true h e) in
-      omega
-      (arith,
-      front-length,
-      tally-parts test (i + 1) ids,
-      simp length-append at more,
-      simp length-append at w)
+      omega (
+        arith,
+        front-length,
+        tally-parts test (i + 1) ids,
+        simp length-append at more,
+        simp length-append at w,
+      )
 
   pub one-found : (i : ℕ) (b : Bool) → i < length ids → test (getD ids i 0) ≡ b
       → take at l ++ those test (take (i + 1) ids) ≡ (take at l ++ those test (take i ids)) ++ cond b (getD ids i 0 ∷ []) []

@@ -1,10 +1,10 @@
 // The core of plants that stays up at the end of a run, when every fault is over and the plants are
 // to agree: at least a quorum that is not recovering, and others as the picks have it. It stands
 // where the Rust has transition_to_liveness_mode.
+use plants::MOST;
 use plants::Plants;
 use plants::refusal::Refusal;
 use plants::refusal::Test;
-use plants::MOST;
 ghost use mathlib.Core.Path.{_≡_};
 ghost use mathlib.Core.Bool.{true, not, _&&_};
 ghost use mathlib.Core.List.{_++_};

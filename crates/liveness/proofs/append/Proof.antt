@@ -38,10 +38,14 @@ loop-holds : tie.Need-loop-holds Inv-loop μ-loop
 unfolding those
 loop-holds c =
     let a = c .args in
-    let n = append-nil (take (a .at) (a .line .now)) in
-    (omega arith, refl,
-    (ap length n ∙ length-take-le (a .at) (a .line .now) (omega arith),
-    sym (ap (λ x. x ++ drop (a .at) (a .line .now)) n ∙ take-append-drop (a .at) (a .line .now))))
+    let n = append-nil (take (a .at) (a .line .now)) in (
+      omega arith,
+      refl,
+      (
+        ap length n ∙ length-take-le (a .at) (a .line .now) (omega arith),
+        sym (ap (λ x. x ++ drop (a .at) (a .line .now)) n ∙ take-append-drop (a .at) (a .line .now)),
+      ),
+    )
 
 mul-id : tie.Need-mul-id Inv-loop μ-loop
 mul-id c = omega arith
@@ -82,13 +86,17 @@ loop-again c =
     let next = take (a .at) line ++ those test (take (i + 1) ids) in
     let found = one-found test ids line (a .at) (l .before .pre .1) i in
     ⊎-elim
-    (λ w. rw (w .1, w .2)
-    (omega arith, simp length-set (omega arith),
-    written-more front next line (l .loop .line) (l .loop .count) (getD ids i 0) (omega (arith, room (record { before = c .before; if1 = w .0 })))
-    (found true (omega arith) (eq-eqb _ _ (w .0 .taken))) (l .loop .inv .2)))
-    (λ w. rw (w .1, w .2)
-    (omega arith, omega arith,
-    written-same front next line (l .loop .line) (l .loop .count) (found false (omega arith) (ne-eqb _ _ (w .0 .left))) (l .loop .inv .2)))
+    (λ w. rw (w .1, w .2) (
+      omega arith,
+      simp length-set (omega arith),
+      written-more front next line (l .loop .line) (l .loop .count) (getD ids i 0) (omega (arith, room (record { before = c .before; if1 = w .0 })))
+          (found true (omega arith) (eq-eqb _ _ (w .0 .taken))) (l .loop .inv .2),
+    ))
+    (λ w. rw (w .1, w .2) (
+      omega arith,
+      omega arith,
+      written-same front next line (l .loop .line) (l .loop .count) (found false (omega arith) (ne-eqb _ _ (w .0 .left))) (l .loop .inv .2),
+    ))
     (c .if1 .came)
 
 same-length : tie.Need-same-length Inv-loop μ-loop

@@ -34,7 +34,7 @@ shuffle-requires c κs =
     let line = c .before .before .before .before .split .last .1 .1 .0 in
     let n = length (s .args .ids .now) in
     let e : length (take (length line - q .result) (drop (q .result) line)) ≡ n - quorum n =
-        part-length line (q .result) ∙ omega (arith, q .ensures, c .before .before .before .before .split .kept .1 .1 .0, s .pre .0 .2) in
+    part-length line (q .result) ∙ omega (arith, q .ensures, c .before .before .before .before .split .kept .1 .1 .0, s .pre .0 .2) in
     rw e (omega (arith, s .pre .1 .0 .1), s .pre .1 .1 .0, s .pre .1 .1 .1)
 
 same-length : tie.Need-same-length

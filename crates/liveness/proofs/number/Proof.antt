@@ -36,11 +36,13 @@ loop-less c = omega arith
 loop-again : tie.Need-loop-again Inv-loop μ-loop
 loop-again c =
     let l = c .before .loop in
-    let a = c .before .before .args .ids .now in
-    (omega arith, simp length-set (omega arith),
-    ap (λ x. set x (l .i) (l .i)) (l .inv .2)
-    ∙ (put-next (idsFrom 0 (l .i)) a (l .i) (l .i) (length-ids 0 (l .i)) (omega arith)
-    ∙ ap (λ x. x ++ drop (l .i + 1) a) (ap (λ n. idsFrom 0 (l .i) ++ n ∷ []) (sym (zero-add (l .i))) ∙ sym (ids-more 0 (l .i)))))
+    let a = c .before .before .args .ids .now in (
+      omega arith,
+      simp length-set (omega arith),
+      ap (λ x. set x (l .i) (l .i)) (l .inv .2)
+          ∙ (put-next (idsFrom 0 (l .i)) a (l .i) (l .i) (length-ids 0 (l .i)) (omega arith)
+          ∙ ap (λ x. x ++ drop (l .i + 1) a) (ap (λ n. idsFrom 0 (l .i) ++ n ∷ []) (sym (zero-add (l .i))) ∙ sym (ids-more 0 (l .i)))),
+    )
 
 same-length : tie.Need-same-length Inv-loop μ-loop
 same-length c = omega arith

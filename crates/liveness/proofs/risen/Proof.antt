@@ -45,11 +45,12 @@ loop-again : tie.Need-loop-again Inv-loop μ-loop
 loop-again c =
     let l = c .before .before .before .before in
     let a = l .before .args in
-    omega
-    (arith,
-    c .rises .ensures,
-    at-most-one (not (getD (a .before .now) (l .loop .i) false) && getD (a .after .now) (l .loop .i) false),
-    risen-next (a .before .now) (a .after .now) (l .loop .i) (omega arith) (omega arith))
+    omega (
+      arith,
+      c .rises .ensures,
+      at-most-one (not (getD (a .before .now) (l .loop .i) false) && getD (a .after .now) (l .loop .i) false),
+      risen-next (a .before .now) (a .after .now) (l .loop .i) (omega arith) (omega arith),
+    )
 
 returns : tie.Need-returns Inv-loop μ-loop
 returns c =

@@ -56,9 +56,10 @@ loop-again c =
     let front = those test (idsFrom 0 i) in
     let next = those test (idsFrom 0 (i + 1)) in
     ⊎-elim
-    (λ w. rw (w .1, w .2)
-    (omega arith,
-    written-more front next (replicate 15 0) (l .loop .core) (l .loop .count) i (omega (arith, few (c .before .before))) (those-next test i true (w .0 .taken)) (l .loop .inv .1)))
+    (λ w. rw (w .1, w .2) (
+      omega arith,
+      written-more front next (replicate 15 0) (l .loop .core) (l .loop .count) i (omega (arith, few (c .before .before))) (those-next test i true (w .0 .taken)) (l .loop .inv .1),
+    ))
     (λ w. rw (w .1, w .2)
     (omega arith, written-same front next (replicate 15 0) (l .loop .core) (l .loop .count) (those-next test i false (w .0 .left)) (l .loop .inv .1)))
     (c .if1 .came)

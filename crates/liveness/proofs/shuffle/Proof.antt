@@ -68,9 +68,12 @@ loop-again : tie.Need-loop-again Inv-loop μ-loop
 loop-again c =
     let l = c .before .before .before .before in
     let p = l .before .args .picks .now in
-    let w = pick-fits p (l .loop .i) (l .loop .at) (omega arith) (l .loop .inv .2) in
-    (omega arith, simp length-set (omega arith), w .1,
-    sym (one-swap p (l .loop .i) (l .loop .at) (omega arith) (l .loop .list)) ∙ l .loop .inv .3)
+    let w = pick-fits p (l .loop .i) (l .loop .at) (omega arith) (l .loop .inv .2) in (
+      omega arith,
+      simp length-set (omega arith),
+      w .1,
+      sym (one-swap p (l .loop .i) (l .loop .at) (omega arith) (l .loop .list)) ∙ l .loop .inv .3,
+    )
 
 same-length : tie.Need-same-length Inv-loop μ-loop
 same-length c = omega arith
