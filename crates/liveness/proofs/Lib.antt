@@ -9,3 +9,5 @@ pub mod Ranges
 pub mod Lending
 pub mod Sorting
 pub mod Choosing
+pub mod Laws
+pub mod WorkedCores

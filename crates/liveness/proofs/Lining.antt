@@ -97,7 +97,7 @@ module _ (n : ℕ) (flags first second : List ℕ) (fit : flagsFit flags ≡ tru
   unfolding healthyCount
   healthy-enough = omega (arith, dealt (isHealthy flags), enough)
 
-  filler-length : length (filler n flags (candidates n first)) ≡ n - quorum n
+  pub filler-length : length (filler n flags (candidates n first)) ≡ n - quorum n
   filler-length =
       let ids = candidates n first in
       behind-length (those (isHealthy flags) ids) (those (isRecovering flags) ids) (quorum n) healthy-enough

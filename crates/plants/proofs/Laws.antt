@@ -71,7 +71,8 @@ unfolding noneSet
 none-left zero = refl
 none-left (suc k) = none-left k
 
-none-past : (n k : ℕ) → noneSet (drop n (replicate k false)) ≡ true
+-- no flag is set past n where none is set
+pub none-past : (n k : ℕ) → noneSet (drop n (replicate k false)) ≡ true
 unfolding noneSet
 none-past zero k = none-left k
 none-past (suc n) zero = refl
