@@ -1,9 +1,9 @@
 -- The core where all tests passed: the front of the line, which has no plant twice and none of n or over; its flags, and its members gathered by
 -- their flags. Then the choice, test by test. Assumes nothing.
 use mathlib.Core.Bool.{Bool, true, false, _&&_}
-use mathlib.Core.List.{List, [], _∷_, _++_}
-use mathlib.Core.Path.{_≡_, refl, sym, ap, _∙_}
-use Prim.Native.Nat.{ℕ, _+_, _-_, _≤_, _<_}
+use mathlib.Core.List.{List, _++_}
+use mathlib.Core.Path.{_≡_, sym, ap, _∙_}
+use Prim.Native.Nat.{ℕ, _+_, _-_, _≤_}
 use native.Mathlib.Nat.{zero-add}
 use native.Mathlib.Omega.{arith}
 use borrow.Author.Tests.{leb-true}
@@ -17,7 +17,7 @@ use Rattle.plants.specs.declared.refusal.Refusal.the-variants.{CountFull}
 use Rattle.plants.specs.declared.refusal.Test.the-variants.{Passed, Failed}
 use Rattle.plants.proofs.Testing.{both}
 use Rattle.liveness.specs.Shuffle.{picksWithin}
-use Rattle.liveness.specs.Core.{quorum, sizePicks, picksUsed, firstPicks, secondPicks, coreSize, picksInRange, idsFrom, those, tally, lineUp, sorted, coreOf}
+use Rattle.liveness.specs.Core.{quorum, sizePicks, picksUsed, firstPicks, secondPicks, coreSize, picksInRange, idsFrom, those, tally, lineUp, coreOf}
 use Rattle.liveness.specs.Choice.{member, inCore, isSet, upAfter, settled, padded, lentTested, choiceTested, chosen}
 use Rattle.liveness.specs.declared.Chosen.{Chosen}
 use Rattle.liveness.specs.declared.Choice.the-variants.{Made, Refused}

@@ -1,4 +1,4 @@
--- The plants by number: their list is as long as asked, rises by one, has none at or past its end and none twice. Assumes nothing.
+-- The plants by number: their list is as long as asked, grows at its end, has none at or past its end and none twice. Assumes nothing.
 use mathlib.Core.Bool.{Bool, true, false, cond}
 use mathlib.Core.List.{List, [], _∷_, _++_}
 use mathlib.Core.Path.{_≡_, refl, sym, ap, _∙_}
@@ -8,7 +8,7 @@ use native.Mathlib.Nat.{add-zero, zero-add}
 use native.Mathlib.Numerals.{add-one}
 use borrow.Author.Tests.{lt-leb, ne-eqb, eqb-true}
 use lib.Dec.{leb, eqb}
-use lib.ListN.{length, getD}
+use lib.ListN.{length}
 use Rattle.plants.specs.Faults.{counted}
 use Rattle.liveness.specs.Core.{idsFrom, those, tally}
 use Rattle.liveness.proofs.Tallies.{tally-cons, those-append}
@@ -17,12 +17,6 @@ pub length-ids : (a k : ℕ) → length (idsFrom a k) ≡ k
 unfolding idsFrom
 length-ids a zero = refl
 length-ids a (suc k) = ap suc (length-ids (suc a) k)
-
-pub getD-ids : (a k i : ℕ) → i < k → getD (idsFrom a k) i 0 ≡ a + i
-unfolding idsFrom
-getD-ids a zero i h = absurd (omega arith)
-getD-ids a (suc k) zero h = omega arith
-getD-ids a (suc k) (suc i) h = getD-ids (suc a) k i (omega arith) ∙ omega arith
 
 pub ids-more : (a k : ℕ) → idsFrom a (k + 1) ≡ idsFrom a k ++ (a + k) ∷ []
 unfolding idsFrom

@@ -1,7 +1,7 @@
 -- What a reader expects of a core: it rises, has no id of n or over, is of the size picked, and holds a quorum of plants that are not recovering;
 -- exactly its plants are up afterwards; the picks used are one for each step of the two shuffles; and a refusal hands the plants back. That a
 -- shuffle permutes is in Shuffling, and that sorting does in Sorting. Assumes nothing.
-use mathlib.Core.Bool.{Bool, true, false, cond, not, _&&_}
+use mathlib.Core.Bool.{Bool, true, false, cond}
 use mathlib.Core.List.{List, [], _∷_, _++_}
 use mathlib.Core.Path.{_≡_, refl, sym, ap, _∙_}
 use Prim.Native.Nat.{ℕ, zero, suc, _+_, _-_, _≤_, _<_}
@@ -9,9 +9,9 @@ use native.Mathlib.Nat.{zero-add}
 use native.Mathlib.Omega.{arith}
 use borrow.Author.Tests.{leb-false, ne-eqb}
 use lib.Dec.{leb}
-use lib.ListN.{length, take, drop, getD, replicate}
+use lib.ListN.{length, take, drop, getD}
 use lib.Seq.{length-take-le, take-append-add}
-use Rattle.plants.specs.Refusals.{must, _then_}
+use Rattle.plants.specs.Refusals.{must}
 use Rattle.plants.specs.State.{most, noneSet, countsFit, tested}
 use Rattle.plants.specs.Faults.{isUp}
 use Rattle.plants.specs.declared.Plants.{Plants}
@@ -23,8 +23,8 @@ use Rattle.plants.proofs.Testing.{both-pass, holds, count-holds, good, by-count
 use Rattle.plants.proofs.Laws.{none-past}
 use Rattle.liveness.specs.Shuffle.{shuffled}
 use Rattle.liveness.specs.Core.{quorum, sizePicks, picksUsed, firstPicks, secondPicks, coreSize, idsFrom, those, tally, isHealthy, candidates, filler, lineUp, coreOf}
-use Rattle.liveness.specs.Choice.{member, inCore, settled, padded, lentTested, choiceTested, chosenIf, chosen}
-use Rattle.liveness.specs.declared.Choice.the-variants.{Made, Refused}
+use Rattle.liveness.specs.Choice.{member, inCore, settled, lentTested, choiceTested, chosenIf, chosen}
+use Rattle.liveness.specs.declared.Choice.the-variants.{Refused}
 use Rattle.liveness.proofs.Tallies.{none-counted, tally-cons, all-below, same-length, those-pass, front-passes, tally-append}
 use Rattle.liveness.proofs.Marking.{flag-of}
 use Rattle.liveness.proofs.Lining.{dealt-length, healthy-enough, filler-length}

@@ -1,7 +1,7 @@
 -- The tests before the core is chosen, one by one, and what holds where all passed. Assumes nothing.
 use mathlib.Core.Bool.{Bool, true, false, _&&_}
 use mathlib.Core.List.{List}
-use mathlib.Core.Path.{_≡_, refl, sym, ap, _∙_}
+use mathlib.Core.Path.{_≡_}
 use Prim.Native.Nat.{ℕ, _≤_, _<_}
 use borrow.Author.Tests.{le-leb, lt-leb, leb-true, eq-eqb, ne-eqb, eqb-true}
 use lib.Dec.{leb, eqb}
@@ -11,7 +11,6 @@ use Rattle.plants.specs.State.{fewest, most, tested}
 use Rattle.plants.specs.declared.Plants.{Plants}
 use Rattle.plants.specs.declared.refusal.Refusal.{Refusal}
 use Rattle.plants.specs.declared.refusal.Refusal.the-variants.{BadFlags, TooFewHealthy, TooFewPicks, PickOutOfRange}
-use Rattle.plants.specs.declared.refusal.Test.{Test}
 use Rattle.plants.specs.declared.refusal.Test.the-variants.{Passed, Failed}
 use Rattle.plants.proofs.Testing.{both, both-pass, holds, bounds}
 use Rattle.liveness.specs.Core.{quorum, picksUsed, picksInRange}

@@ -1,19 +1,18 @@
 -- The plants lined up: flags of 0 and 1 split a list in two, and the line is a permutation of the plants. Assumes nothing.
-use mathlib.Core.Bool.{Bool, true, false, not, _&&_}
-use mathlib.Core.List.{List, [], _∷_, _++_, append-assoc, append-nil}
+use mathlib.Core.Bool.{true, not}
+use mathlib.Core.List.{List, [], _∷_, _++_, append-nil}
 use mathlib.Core.Path.{_≡_, refl, sym, ap, _∙_}
 use Prim.Native.Nat.{ℕ, zero, suc, _+_, _-_, _≤_, _<_}
 use native.Mathlib.Omega.{arith}
-use native.Mathlib.Nat.{zero-add}
-use borrow.Author.Tests.{leb-true, eq-eqb, ne-eqb}
+use borrow.Author.Tests.{leb-true}
 use lib.Dec.{leb, eqb}
-use lib.ListN.{length, take, drop, getD, replicate, length-append, length-drop, length-take, drop-of-length-le, take-append-drop}
-use lib.Seq.{take-at, drop-at, take-all, take-append-le, drop-append-le, length-take-le}
+use lib.ListN.{length, take, drop, getD, length-append, length-drop, length-take, drop-of-length-le}
+use lib.Seq.{take-at, take-all, take-append-le, drop-append-le}
 use Rattle.plants.proofs.Testing.{both}
 use Rattle.liveness.specs.Shuffle.{shuffled, picksWithin}
 use Rattle.liveness.specs.Core.{quorum, idsFrom, those, tally, isHealthy, isRecovering, candidates, staying, filler, lineUp}
 use Rattle.liveness.specs.Choice.{flagsFit, healthyCount}
-use Rattle.liveness.proofs.Tallies.{Permutation, tally-append, tally-parts, tally-split, tally-all, same-length}
+use Rattle.liveness.proofs.Tallies.{Permutation, tally-append, tally-parts, tally-split, same-length}
 use Rattle.liveness.proofs.Ids.{length-ids, ids-below}
 use Rattle.liveness.proofs.Shuffling.{shuffle-permutes}
 
@@ -131,7 +130,7 @@ module _ (n : ℕ) (flags first second : List ℕ) (fit : flagsFit flags ≡ tru
     ids-length : length ids ≡ n
     ids-length = ap length e ∙ dealt-length
 
-    pub ids-known : tally (leb (length flags)) ids ≡ 0
+    ids-known : tally (leb (length flags)) ids ≡ 0
     ids-known = rw (e, same) (dealt (leb n) ∙ ids-below n 0 n (omega arith))
 
     pub ready : (k : ℕ) → k ≡ n → 3 ≤ n → n - quorum n - 1 ≤ length second

@@ -1,8 +1,8 @@
 -- The flags of the plants that are among some: one flag for each plant, set where the plant is a member. Assumes nothing.
-use mathlib.Core.Bool.{Bool, true, false, _||_, or-true, or-false, false-or}
+use mathlib.Core.Bool.{Bool, true, false, _||_, or-true, or-false}
 use mathlib.Core.List.{List, [], _∷_, _++_}
 use mathlib.Core.Path.{_≡_, refl, sym, ap, _∙_}
-use Prim.Native.Nat.{ℕ, zero, suc, _+_, _≤_, _<_}
+use Prim.Native.Nat.{ℕ, zero, suc, _+_, _<_}
 use native.Mathlib.Nat.{add-zero, zero-add}
 use native.Mathlib.Omega.{arith}
 use native.Mathlib.Numerals.{add-one}
@@ -13,7 +13,7 @@ use lib.ListN.{length, take, getD, set, replicate, length-set}
 use lib.Seq.{ext-getD, getD-set-same, getD-set-other, take-suc}
 use Rattle.liveness.specs.Choice.{member, inCore}
 
-pub length-flags : (l : List ℕ) (a k : ℕ) → length (inCore l a k) ≡ k
+length-flags : (l : List ℕ) (a k : ℕ) → length (inCore l a k) ≡ k
 unfolding inCore
 length-flags l a zero = refl
 length-flags l a (suc k) = ap suc (length-flags l (suc a) k)

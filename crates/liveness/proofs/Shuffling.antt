@@ -1,8 +1,8 @@
 -- A shuffle by picks within their ranges is a permutation of the list. Assumes nothing.
-use mathlib.Core.Bool.{Bool, true, false, _&&_}
+use mathlib.Core.Bool.{true}
 use mathlib.Core.List.{List, [], _∷_}
-use mathlib.Core.Path.{_≡_, refl, sym, ap, _∙_}
-use Prim.Native.Nat.{ℕ, zero, suc, _+_, _-_, _≤_, _<_}
+use mathlib.Core.Path.{_≡_, refl, ap, _∙_}
+use Prim.Native.Nat.{ℕ, zero, suc, _-_, _<_}
 use native.Mathlib.Omega.{arith}
 use native.Mathlib.Decide.{ℕ-discrete}
 use borrow.Author.Tests.{leb-true}
@@ -11,7 +11,6 @@ use lib.ListN.{length, drop, getD, set, length-set}
 use lib.Seq.{getD-set-same, getD-set-other}
 use Rattle.plants.proofs.Testing.{both}
 use Rattle.plants.specs.Faults.{counted}
-use Rattle.liveness.specs.Core.{tally}
 use Rattle.liveness.specs.Shuffle.{swapped, shuffledFrom, shuffled, picksWithin}
 use Rattle.liveness.proofs.Tallies.{Permutation, tally-set}
 

@@ -1,5 +1,5 @@
 -- Sorting by insertion: a permutation, and where none is twice, the members in the order of the plants' numbers. Assumes nothing.
-use mathlib.Core.Bool.{Bool, true, false, cond, not, _||_}
+use mathlib.Core.Bool.{Bool, true, false, cond, _||_}
 use mathlib.Core.List.{List, [], _∷_}
 use mathlib.Core.Path.{_≡_, refl, sym, ap, _∙_}
 use Prim.Native.Nat.{ℕ, zero, suc, _+_, _≤_, _<_}
@@ -7,11 +7,10 @@ use native.Mathlib.Omega.{arith}
 use native.Mathlib.Decide.{ℕ-discrete}
 use borrow.Author.Tests.{lt-ltb, le-leb, lt-leb, leb-false, eq-eqb, ne-eqb}
 use lib.Dec.{leb, ltb, eqb}
-use lib.ListN.{length}
 use Rattle.plants.specs.Faults.{counted}
 use Rattle.liveness.specs.Core.{idsFrom, those, tally, inserted, sorted}
 use Rattle.liveness.specs.Choice.{member, inCore}
-use Rattle.liveness.proofs.Tallies.{Permutation, tally-cons, none-counted, at-most-one}
+use Rattle.liveness.proofs.Tallies.{Permutation, tally-cons, none-counted}
 
 -- ---- sorting permutes
 module _ (test : ℕ → Bool) where

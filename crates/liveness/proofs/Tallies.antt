@@ -3,7 +3,7 @@
 use mathlib.Core.Bool.{Bool, true, false, cond, not}
 use mathlib.Core.List.{List, [], _∷_, _++_}
 use mathlib.Core.Path.{_≡_, refl, sym, ap, _∙_}
-use Prim.Native.Nat.{ℕ, zero, suc, _+_, _-_, _≤_, _<_}
+use Prim.Native.Nat.{ℕ, zero, suc, _+_, _≤_, _<_}
 use native.Mathlib.Omega.{arith}
 use native.Mathlib.Numerals.{add-one}
 use borrow.Author.Tests.{leb-false}
@@ -16,9 +16,6 @@ use Rattle.liveness.specs.Core.{those, tally}
 -- every test passes as often in one list as in another
 abbrev pub Permutation : List ℕ → List ℕ → Type 0
 Permutation l m = (test : ℕ → Bool) → tally test l ≡ tally test m
-
-pub no-such : {A : Type 0} → true ≡ false → A
-no-such e = let z : _≡_ {A = ℕ} 0 1 = cc in absurd (omega arith)
 
 pub none-counted : (b : Bool) → counted b ≡ 0 → b ≡ false
 none-counted true e = absurd (omega arith)

@@ -1,18 +1,18 @@
 -- What a reader expects of the plants' calls: a refusal hands the plants back, an accepted call leaves a state that passes its tests, so does a
 -- fresh state, and a client's id plays no part in a verdict. Assumes nothing.
 use mathlib.Core.Bool.{Bool, true, false, _&&_}
-use mathlib.Core.List.{List, [], _∷_, _++_}
-use mathlib.Core.Path.{_≡_, refl, sym, ap, _∙_}
-use Prim.Native.Nat.{ℕ, zero, suc, _-_, _<_, _≤_}
+use mathlib.Core.List.{List, _++_}
+use mathlib.Core.Path.{_≡_, refl, sym, _∙_}
+use Prim.Native.Nat.{ℕ, zero, suc, _-_, _≤_}
 use native.Mathlib.Omega.{arith}
 use borrow.Author.Tests.{ltb-true, le-leb}
-use lib.ListN.{length, drop, set, replicate, length-replicate}
+use lib.ListN.{drop, set, replicate, length-replicate}
 use lib.Seq.{drop-set-lt, drop-at}
 use Rattle.script.specs.declared.fault.Fault.{Fault}
 use Rattle.script.specs.declared.fault.Fault.the-variants.{Crash, Restart, Reboot, Partition, Heal, HealAll}
 use Rattle.plants.specs.Refusals.{must, _then_}
 use Rattle.plants.specs.State.{fewest, most, fresh, noneSet, countsFit, wellFormed, tested}
-use Rattle.plants.specs.Faults.{after, knows, hasNonce, answered, faultTested, appliedIf, applied}
+use Rattle.plants.specs.Faults.{after, knows, hasNonce, faultTested, appliedIf, applied}
 use Rattle.plants.specs.Verdicts.{verdictTested, judgedIf, judged}
 use Rattle.plants.specs.declared.Plants.{Plants}
 use Rattle.plants.specs.declared.Origin.the-variants.{Client}

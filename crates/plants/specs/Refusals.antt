@@ -1,6 +1,6 @@
 -- The refusals 40 to 48 by their names (RULES, "Refusal numbers"), and tests in an order, of which the first that fails answers.
 -- Assumes nothing.
-use mathlib.Core.Bool.{Bool, true, false, cond}
+use mathlib.Core.Bool.{Bool, cond}
 use Prim.Native.Nat.{ℕ}
 use Rattle.plants.specs.declared.refusal.Refusal.{Refusal}
 use Rattle.plants.specs.declared.refusal.Refusal.the-variants.{PlantCount, UnknownPlant, IllFormed, CountFull, NoNonce, BadFlags, TooFewPicks, PickOutOfRange, TooFewHealthy}

@@ -3,12 +3,12 @@ use Prim.Native.Nat.{_+_, _-_, _≤_, _<_}
 use mathlib.Core.Path.{_≡_, refl, sym, ap, _∙_}
 use native.Mathlib.Omega.{arith}
 use mathlib.Core.Bool.{true, false}
-use mathlib.Core.List.{List, _++_, append-nil}
+use mathlib.Core.List.{_++_, append-nil}
 use mathlib.Core.Logic.{⊎-elim}
 use borrow.Author.Tests.{eq-eqb, ne-eqb}
-use lib.ListN.{length, take, drop, getD, set, length-set, take-append-drop}
+use lib.ListN.{length, take, drop, getD, length-set, take-append-drop}
 use lib.Seq.{length-take-le}
-use Rattle.liveness.specs.Core.{those, tally, hasFlag}
+use Rattle.liveness.specs.Core.{those, hasFlag}
 use Rattle.liveness.proofs.Tallies.{all-below}
 use Rattle.liveness.proofs.Walks.{Written, written-more, written-same, has-room, one-found, all-found}
 use Rattle.liveness.proofs.append.Statement.{statement}

@@ -1,14 +1,12 @@
 -- `liveness::choose_core` meets its contract: the tests come in the definition's order, and a refusal hands the plants back. Assumes nothing.
-use mathlib.Core.Bool.{true}
-use mathlib.Core.Path.{_≡_, refl, sym, ap, _∙_}
+use mathlib.Core.Path.{_≡_, sym, ap, _∙_}
 use native.Mathlib.Omega.{arith}
 use borrow.Author.Tests.{not-true, not-false}
 use Rattle.plants.specs.State.{tested, countsFit}
 use Rattle.plants.specs.declared.refusal.Test.the-variants.{Passed}
 use Rattle.plants.proofs.Testing.{counts}
 use Rattle.liveness.specs.Core.{idsFrom, those, coreOf}
-use Rattle.liveness.specs.Choice.{isSet, settledBy, settled, upAfter, padded, lentTested}
-use Rattle.liveness.specs.declared.Chosen.{Chosen}
+use Rattle.liveness.specs.Choice.{isSet, settledBy, settled, padded, lentTested}
 use Rattle.liveness.specs.declared.Choice.the-variants.{Made}
 use Rattle.liveness.proofs.Lending.{Ready, lent-passed}
 use Rattle.liveness.proofs.Choosing.{gathered, not-lent, count-full, made}

@@ -1,6 +1,5 @@
 -- `liveness::deal` meets its contract. Assumes nothing.
-use mathlib.Core.Path.{_≡_, refl, sym, ap, _∙_}
-use native.Mathlib.Omega.{arith}
+use mathlib.Core.Path.{_≡_, ap, _∙_}
 use lib.ListN.{length}
 use Rattle.liveness.specs.Shuffle.{shuffled}
 use Rattle.liveness.proofs.Ids.{length-ids}

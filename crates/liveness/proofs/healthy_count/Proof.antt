@@ -1,11 +1,11 @@
 -- `liveness::healthy_count` meets its contract: those counted, and those among what is left. Assumes nothing.
-use Prim.Native.Nat.{_+_, _-_, _≤_, _<_}
-use mathlib.Core.Path.{_≡_, refl, sym, ap, _∙_}
+use Prim.Native.Nat.{_+_, _-_, _≤_}
+use mathlib.Core.Path.{_≡_, ap}
 use native.Mathlib.Omega.{arith}
 use mathlib.Core.Bool.{true, false}
 use mathlib.Core.Logic.{⊎-elim}
 use borrow.Author.Tests.{eq-eqb, ne-eqb}
-use lib.ListN.{length, getD}
+use lib.ListN.{length}
 use native.Mathlib.Nat.{sub-zero}
 use Rattle.liveness.specs.Core.{idsFrom, tally, isHealthy}
 use Rattle.liveness.specs.Choice.{healthyCount}

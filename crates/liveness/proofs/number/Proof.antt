@@ -1,5 +1,5 @@
 -- `liveness::number` meets its contract: after i turns the first i plants stand at the front. Assumes nothing.
-use Prim.Native.Nat.{_+_, _-_, _≤_, _<_}
+use Prim.Native.Nat.{_+_, _-_, _≤_}
 use mathlib.Core.Path.{_≡_, refl, sym, ap, _∙_}
 use native.Mathlib.Omega.{arith}
 use mathlib.Core.List.{_++_, _∷_, [], append-nil}

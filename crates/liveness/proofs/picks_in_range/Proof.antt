@@ -1,10 +1,10 @@
 -- `liveness::picks_in_range` meets its contract: the size first, then the picks of the two shuffles. Assumes nothing.
-use mathlib.Core.Path.{_≡_, refl, sym, ap, _∙_}
+use mathlib.Core.Path.{sym, ap, _∙_}
 use native.Mathlib.Omega.{arith}
 use borrow.Author.Tests.{not-true, not-false}
 use Prim.Native.Nat.{_+_, _-_}
 use lib.ListN.{length, length-drop}
-use Rattle.liveness.proofs.Ranges.{rest, one-pick, too-small, too-large, first-out, by-second}
+use Rattle.liveness.proofs.Ranges.{rest, too-small, too-large, first-out, by-second}
 use borrow.Author.Needs.{needs}
 use Rattle.liveness.proofs.picks_in_range.Statement.{statement}
 use Rattle.liveness.proofs.picks_in_range.Tie as tie

@@ -1,15 +1,9 @@
 -- `liveness::picks_used` meets its contract: two sums of a few picks. Assumes nothing.
-use mathlib.Core.Bool.{Bool, true, false}
-use Prim.Native.Nat.{_≤_}
 use native.Mathlib.Omega.{arith}
-use Rattle.liveness.specs.Core.{sizePicks}
+use Rattle.liveness.proofs.Ranges.{one-pick}
 use borrow.Author.Needs.{needs}
 use Rattle.liveness.proofs.picks_used.Statement.{statement}
 use Rattle.liveness.proofs.picks_used.Tie as tie
-
-one-pick : (full : Bool) → sizePicks full ≤ 1
-one-pick true = omega arith
-one-pick false = omega arith
 
 size-picks-requires : tie.Need-size-picks-requires
 size-picks-requires c κs = search needs

@@ -1,8 +1,8 @@
 -- `liveness::picks_within` meets its contract: a pick that is passed is within, so what is left decides. Assumes nothing.
-use Prim.Native.Nat.{_+_, _-_, _≤_, _<_}
-use mathlib.Core.Path.{_≡_, refl, sym, ap, _∙_}
+use Prim.Native.Nat.{_+_}
+use mathlib.Core.Path.{_≡_, refl, sym, _∙_}
 use native.Mathlib.Omega.{arith}
-use lib.ListN.{length, drop}
+use lib.ListN.{drop}
 use Rattle.liveness.specs.Shuffle.{picksWithin}
 use Rattle.liveness.proofs.Walks.{pick-within, pick-over}
 use Rattle.liveness.proofs.picks_within.Statement.{statement}

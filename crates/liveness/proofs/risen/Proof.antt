@@ -1,10 +1,10 @@
 -- `liveness::risen` meets its contract: those counted, and those among what is left. Assumes nothing.
-use Prim.Native.Nat.{_+_, _-_, _≤_, _<_}
-use mathlib.Core.Path.{_≡_, refl, sym, ap, _∙_}
+use Prim.Native.Nat.{_+_, _-_, _≤_}
+use mathlib.Core.Path.{_≡_}
 use native.Mathlib.Omega.{arith}
 use mathlib.Core.Bool.{not, _&&_, false}
 use borrow.Author.Needs.{needs}
-use lib.ListN.{length, drop, getD}
+use lib.ListN.{drop, getD}
 use Rattle.liveness.specs.Choice.{risen}
 use Rattle.liveness.proofs.Tallies.{at-most-one}
 use Rattle.liveness.proofs.Walks.{risen-next, risen-end}

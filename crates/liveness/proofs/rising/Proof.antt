@@ -1,11 +1,11 @@
 -- `liveness::rising` meets its contract: after i turns those of the first i plants that are set stand at the front. Assumes nothing.
-use Prim.Native.Nat.{_+_, _-_, _≤_, _<_}
+use Prim.Native.Nat.{_+_, _-_, _≤_}
 use mathlib.Core.Path.{_≡_, refl, sym, ap, _∙_}
 use native.Mathlib.Omega.{arith}
 use mathlib.Core.Bool.{true, false}
-use mathlib.Core.List.{List, _++_, _∷_, []}
+use mathlib.Core.List.{_++_}
 use mathlib.Core.Logic.{⊎-elim}
-use lib.ListN.{length, drop, set, replicate}
+use lib.ListN.{replicate}
 use Rattle.liveness.specs.Core.{idsFrom, those}
 use Rattle.liveness.specs.Choice.{isSet}
 use Rattle.liveness.proofs.Ids.{length-ids, those-next}

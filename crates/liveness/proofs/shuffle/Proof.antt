@@ -1,9 +1,9 @@
 -- `liveness::shuffle` meets its contract: what is still to be swapped, of what is swapped, is the whole shuffle. Assumes nothing.
-use Prim.Native.Nat.{_+_, _-_, _≤_, _<_}
-use mathlib.Core.Path.{_≡_, refl, sym, ap, _∙_}
+use Prim.Native.Nat.{_+_, _-_, _≤_}
+use mathlib.Core.Path.{_≡_, refl, sym, _∙_}
 use native.Mathlib.Omega.{arith}
 use mathlib.Core.Bool.{true}
-use lib.ListN.{length, drop, getD, set, length-set}
+use lib.ListN.{length, drop, getD, length-set}
 use Rattle.liveness.specs.Shuffle.{shuffledFrom, picksWithin}
 use Rattle.liveness.proofs.Walks.{one-swap, pick-fits}
 use Rattle.liveness.proofs.shuffle.Statement.{statement}

@@ -1,7 +1,6 @@
 -- `liveness::split` meets its contract: the healthy fill the front of the line, and the recovering the rest. Assumes nothing.
-use mathlib.Core.Path.{_≡_, refl, sym, ap, _∙_}
+use mathlib.Core.Path.{sym, _∙_}
 use native.Mathlib.Omega.{arith}
-use lib.ListN.{length}
 use Rattle.liveness.specs.Core.{those, isHealthy, isRecovering}
 use Rattle.liveness.proofs.Lining.{split-length, both-appended}
 use borrow.Author.Needs.{needs}

@@ -1,14 +1,14 @@
 -- `liveness::test_lent` meets its contract: the tests come in the definition's order. Assumes nothing.
 use mathlib.Core.Bool.{true, false}
-use mathlib.Core.Path.{_≡_, refl, sym, ap, _∙_}
+use mathlib.Core.Path.{_≡_, sym, ap, _∙_}
 use Prim.Native.Nat.{ℕ, _≤_}
 use native.Mathlib.Omega.{arith}
 use borrow.Author.Tests.{not-true, not-false}
 use lib.ListN.{length}
-use Rattle.plants.specs.State.{fewest, most, tested}
+use Rattle.plants.specs.State.{tested}
 use Rattle.plants.specs.declared.refusal.Test.the-variants.{Passed}
 use Rattle.plants.proofs.Testing.{bounds}
-use Rattle.liveness.specs.Core.{quorum, picksUsed}
+use Rattle.liveness.specs.Core.{quorum}
 use Rattle.liveness.specs.Choice.{flagsFit, healthyCount}
 use Rattle.liveness.proofs.Lending.{bad-state, other-length, flag-over, too-few-healthy, too-few-picks, by-range}
 use borrow.Author.Needs.{needs}

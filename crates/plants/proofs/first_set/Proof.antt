@@ -1,6 +1,6 @@
 -- `plants::first_set` meets its contract: after i turns the first i flags are set. Assumes nothing.
 use Prim.Native.Nat.{_≤_, _-_}
-use mathlib.Core.Path.{_≡_, refl, sym, ap, _∙_}
+use mathlib.Core.Path.{_≡_, refl, ap, _∙_}
 use mathlib.Core.List.{_++_}
 use mathlib.Core.Bool.{true, false}
 use native.Mathlib.Omega.{arith}

@@ -1,8 +1,8 @@
 -- `plants::none_set` meets its contract: a flag that is passed was not set, so what is left decides. Assumes nothing.
 use Prim.Native.Nat.{_≤_, _-_}
-use mathlib.Core.Path.{_≡_, refl, sym, ap, _∙_}
+use mathlib.Core.Path.{_≡_, refl, sym, _∙_}
 use native.Mathlib.Omega.{arith}
-use lib.ListN.{length, drop}
+use lib.ListN.{drop}
 use Rattle.plants.specs.State.{noneSet}
 use Rattle.plants.proofs.Counting.{unset-on, set-stops, none-left}
 use Rattle.plants.proofs.none_set.Statement.{statement}

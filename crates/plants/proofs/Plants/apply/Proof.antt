@@ -1,10 +1,9 @@
 -- `plants::Plants::apply` meets its contract: the tests come in the definition's order, and a refusal hands the plants back. Assumes nothing.
 use mathlib.Core.Bool.{true}
-use mathlib.Core.Path.{_≡_, refl, sym, ap, _∙_}
+use mathlib.Core.Path.{_≡_, sym, ap, _∙_}
 use borrow.Author.Tests.{not-true, not-false}
 use Rattle.plants.specs.State.{tested, countsFit}
 use Rattle.plants.specs.Faults.{after, knows}
-use Rattle.plants.specs.declared.Next.{Next}
 use Rattle.plants.specs.declared.Outcome.the-variants.{Refused}
 use Rattle.plants.specs.declared.refusal.Test.the-variants.{Passed}
 use Rattle.plants.proofs.Applying.{bad-state, unknown-plant, count-full, no-nonce, goes, nonce-drawn, nonce-missing}

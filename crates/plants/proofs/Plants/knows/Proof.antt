@@ -1,5 +1,5 @@
 -- `plants::Plants::knows` meets its contract. Assumes nothing.
-use mathlib.Core.Path.{_≡_, refl, sym, ap, _∙_}
+use mathlib.Core.Path.{sym, ap, _∙_}
 use borrow.Author.Tests.{not-true, not-false}
 use lib.Dec.{ltb}
 use Rattle.plants.proofs.Counting.{needs-none, knows-id}

@@ -1,6 +1,5 @@
 -- `plants::Plants::new` meets its contract: the test of n, and the fresh plants of n or of none. Assumes nothing.
-use mathlib.Core.Path.{_≡_, sym, _∙_}
-use native.Mathlib.Omega.{arith}
+use mathlib.Core.Path.{sym, _∙_}
 use borrow.Author.Tests.{not-true, not-false}
 use Rattle.plants.specs.State.{made}
 use Rattle.plants.proofs.Testing.{between}

@@ -1,6 +1,6 @@
 -- `plants::Plants::verdict` meets its contract: the tests come in the definition's order, and a client's id in none of them. Assumes nothing.
 use mathlib.Core.Path.{_≡_, sym, ap, _∙_}
-use Prim.Native.Nat.{_<_, _≤_}
+use Prim.Native.Nat.{_≤_}
 use native.Mathlib.Omega.{arith}
 use Rattle.plants.specs.State.{most, tested}
 use Rattle.plants.specs.declared.Judged.the-variants.{Is}
