@@ -1,0 +1,29 @@
+-- The refusals 40 to 48 by their names (RULES, "Refusal numbers"), and tests in an order, of which the first that fails answers.
+-- Assumes nothing.
+use mathlib.Core.Bool.{Bool, cond}
+use Prim.Native.Nat.{ℕ}
+use Rattle.plants.specs.declared.refusal.Refusal.{Refusal}
+use Rattle.plants.specs.declared.refusal.Refusal.the-variants.{PlantCount, UnknownPlant, IllFormed, CountFull, NoNonce, BadFlags, TooFewPicks, PickOutOfRange, TooFewHealthy}
+use Rattle.plants.specs.declared.refusal.Test.{Test}
+use Rattle.plants.specs.declared.refusal.Test.the-variants.{Passed, Failed}
+
+abbrev pub refusalNumber : Refusal → ℕ
+refusalNumber PlantCount = 40
+refusalNumber UnknownPlant = 41
+refusalNumber IllFormed = 42
+refusalNumber CountFull = 43
+refusalNumber NoNonce = 44
+refusalNumber BadFlags = 45
+refusalNumber TooFewPicks = 46
+refusalNumber PickOutOfRange = 47
+refusalNumber TooFewHealthy = 48
+
+-- a test that fails with a refusal
+abbrev pub must : Bool → Refusal → Test
+must holds r = cond holds Passed (Failed r)
+
+infixr 20 _then_
+-- one test and then another
+abbrev pub _then_ : Test → Test → Test
+_then_ Passed t = t
+_then_ (Failed r) t = Failed r

@@ -1,0 +1,66 @@
+-- The state of 3 to 15 plants (RULES, "Plants and core"), when it is well formed, and a fresh one. A state has room for 15 plants: flags and
+-- numbers are lists of 15, of which the first n are the plants'. Assumes nothing.
+use mathlib.Core.Bool.{Bool, true, false, cond, not, _&&_}
+use mathlib.Core.List.{List, [], _∷_, _++_}
+use Prim.Native.Nat.{ℕ, _-_, _^_}
+use lib.Dec.{leb}
+use lib.ListN.{drop, replicate}
+use Rattle.plants.specs.Refusals.{must, _then_}
+use Rattle.plants.specs.declared.Plants.{Plants}
+use Rattle.plants.specs.declared.Next.{Next}
+use Rattle.plants.specs.declared.Outcome.the-variants.{Done, Refused}
+use Rattle.plants.specs.declared.refusal.Refusal.the-variants.{PlantCount, IllFormed}
+use Rattle.plants.specs.declared.refusal.Test.{Test}
+
+-- the fewest plants, the most, and the most that a count may be
+abbrev pub fewest : ℕ
+fewest = 3
+
+abbrev pub most : ℕ
+most = 15
+
+abbrev pub limit : ℕ
+limit = 2 ^ 62
+
+-- n is 3 to 15
+unfoldable pub plantCount : ℕ → Bool
+plantCount n = leb fewest n && leb n most
+
+-- no flag is set
+unfoldable pub noneSet : List Bool → Bool
+noneSet [] = true
+noneSet (b ∷ bs) = not b && noneSet bs
+
+-- no count is over the limit
+unfoldable pub countsFit : Plants → Bool
+countsFit s = leb (s .crashes) limit && leb (s .restarts) limit && leb (s .reboots) limit
+
+-- no flag is set past n, and no count is over the limit
+unfoldable pub wellFormed : Plants → Bool
+wellFormed s = noneSet (drop (s .n) (s .up)) && noneSet (drop (s .n) (s .partitioned)) && countsFit s
+
+-- the tests of a state, which come first in every call: 40 and then 42
+unfoldable pub tested : Plants → Test
+tested s = must (plantCount (s .n)) PlantCount then must (wellFormed s) IllFormed
+
+-- all n up, and zeros
+abbrev pub fresh : ℕ → Plants
+fresh n =
+    record {
+      n = n;
+      up = replicate n true ++ replicate (most - n) false;
+      partitioned = replicate most false;
+      «stable_until» = replicate most 0;
+      crashes = 0;
+      restarts = 0;
+      reboots = 0;
+    }
+
+-- all zeros
+abbrev pub blank : Plants
+blank = fresh 0
+
+-- a new state
+unfoldable pub made : ℕ → Next
+made n =
+    cond (plantCount n) (record { plants = fresh n; outcome = Done }) (record { plants = blank; outcome = Refused PlantCount })
