@@ -20,6 +20,6 @@ unfoldable pub canonicalEntry : Cluster → ℕ → Entry
 canonicalEntry c i =
     cond (ltb i (length (c .tracker .canonical))) (getD (c .tracker .canonical) i noEntry) (entry c (committer c i) i)
 
--- 3, committed-prefix-agreement: the entry equals canonical there
+-- the entry equals canonical there, or is the one that is appended
 unfoldable pub agrees : Cluster → ℕ → ℕ → Bool
 agrees c r i = sameEntry (canonicalEntry c i) (entry c r i)

@@ -8,7 +8,7 @@ use Rattle.verdicts.specs.Verdicts.{firstFailed, overPlants}
 use Rattle.verdicts.specs.declared.Answer.{Answer}
 use Rattle.verdicts.specs.declared.Property.the-variants.{CommitNumber}
 
--- 1, commit-number-monotonic: op = length; commit ≤ op; commit ≥ last
+-- the tests of a plant: op = length; commit ≤ op; commit ≥ last
 unfoldable pub commitTests : ℕ → ℕ → ℕ → ℕ → ℕ → Answer
 commitTests r commit op size lastCommit =
     firstFailed CommitNumber r 1 (eqb op size ∷ leb commit op ∷ leb lastCommit commit ∷ [])

@@ -18,7 +18,7 @@ decided (no e) = false
 unfoldable pub sameValue : ℤ → ℤ → Bool
 sameValue a b = decided (ℤ-discrete a b)
 
--- 7, convergence, of the plant `id` against the first of the core: length, entries, commit = length, value
+-- the tests of the plant `id` against the first of the core: length, entries, commit = length, value
 unfoldable pub convergedWith : Cluster → List ℤ → ℕ → ℕ → Answer
 convergedWith c values reference id =
     andThen (firstFailed Convergence id 1 (eqb (length (plant c id .log)) (length (plant c reference .log)) ∷ []))

@@ -9,6 +9,6 @@ use Rattle.snapshots.specs.Cluster.{Cluster, entry, last, seenId}
 unfoldable pub idOf : Cluster → ℕ → ℕ → ℕ
 idOf c r j = cond (ltb j (last c r)) (seenId c r j) (entry c r j .id)
 
--- 4, no-duplicate-ops: the op id differs from the plant's first i ids
+-- the op id differs from the plant's first i ids
 unfoldable pub unseen : Cluster → ℕ → ℕ → Bool
 unseen c r i = allBelow i (λ j. not (eqb (idOf c r j) (entry c r i .id)))

@@ -6,7 +6,7 @@ use lib.ListN.{length}
 use Rattle.snapshots.specs.Below.{countBelow}
 use Rattle.snapshots.specs.Cluster.{Entry, Cluster, sameEntry, plant, entry}
 
--- 6, durability: recovering plants are in neither count
+-- the plants that are not recovering
 unfoldable pub participants : Cluster → ℕ
 participants c = countBelow (c .size) (λ q. not (plant c q .recovering))
 
