@@ -1,4 +1,4 @@
--- Document 01's two cores: 5 plants of which plant 0 is recovering, with the picks 4, 4, 3, 2, 1 and 0 or 1. All are up before. Assumes nothing.
+-- The two worked cores (RULES, "Plants and core"): 5 plants of which plant 0 is recovering, with the picks 4, 4, 3, 2, 1 and 0 or 1. All are up before. Assumes nothing.
 use mathlib.Core.Bool.{Bool, true, false}
 use mathlib.Core.List.{List, [], _∷_, _++_}
 use mathlib.Core.Path.{_≡_, refl}

@@ -239,6 +239,7 @@ impl Plants {
         fault.id() < n
     }
 
+    // A crash counts only if the plant is up.
     fn crashed(self, id: usize, tick: u64) -> Plants
         requires { ⌜ (id < 15) × (self .crashes ≤ limit) ⌝ }
         ensures { λ r. ⌜ r ≡ after self tick (Fault.Crash id) ⌝ }
@@ -251,6 +252,7 @@ impl Plants {
         me
     }
 
+    // A restart counts only if the plant is down.
     fn restarted(self, id: usize, tick: u64) -> Plants
         requires { ⌜ (id < 15) × (self .restarts ≤ limit) ⌝ }
         ensures { λ r. ⌜ r ≡ after self tick (Fault.Restart id) ⌝ }
@@ -263,6 +265,7 @@ impl Plants {
         me
     }
 
+    // A reboot always counts, as a reboot and as a restart.
     fn rebooted(self, id: usize, tick: u64) -> Plants
         requires { ⌜ (id < 15) × (self .restarts ≤ limit) × (self .reboots ≤ limit) ⌝ }
         ensures { λ r. ⌜ r ≡ after self tick (Fault.Reboot id) ⌝ }
@@ -275,6 +278,7 @@ impl Plants {
         me
     }
 
+    // One plant cut off, or reconnected.
     fn parted(self, id: usize, flag: bool) -> Plants
         requires { ⌜ id < 15 ⌝ }
         ensures { λ r. ⌜ r ≡ parted self (set (self .partitioned) id flag) ⌝ }
@@ -284,6 +288,7 @@ impl Plants {
         me
     }
 
+    // Every plant reconnected.
     fn healed(self) -> Plants
         ensures { λ r. ⌜ r ≡ after self 0 Fault.HealAll ⌝ }
     {
