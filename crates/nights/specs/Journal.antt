@@ -7,7 +7,7 @@ use lib.ListN.{length, take, drop, getD}
 use lib.Dec.{leb, ltb, eqb}
 use Rattle.chance.specs.Probability.{goodWord}
 use Rattle.nights.specs.Record.{Record, recordSize, wordsOf, recs}
-use Rattle.nights.specs.Net.{capacity, sentLimit, lastKind, lastSort, Network, keep, insertAll, Fate, refuse, lose, once, twice, dues, Draws, Letter, Plain, send, take as takes, choose, isDue, effect, bit, wellFormed}
+use Rattle.nights.specs.Net.{capacity, sentLimit, lastKind, lastSort, Options, Network, keep, insertAll, Fate, refuse, lose, once, twice, dues, Draws, Letter, Plain, send, take as takes, choose, isDue, effect, bit, wellFormed}
 
 -- a call's answer
 pub data Answer : Type 0 where
@@ -172,16 +172,19 @@ sendTests m f n more =
     ∷ record { passes = leb (length (n .pending) + length (dues f)) capacity; number = 29 }
     ∷ more
 
+abbrev pub optionTests : Options → List Test → List Test
+optionTests o more =
+    record { passes = goodWord (o .loss); number = 20 }
+    ∷ record { passes = goodWord (o .replay); number = 21 }
+    ∷ record { passes = leb (o .least) (o .mean); number = 22 }
+    ∷ more
+
 -- the tests of a call, in order: after that of the network and before those of the journal
 unfoldable pub tests : Draws → Plain → Network → List Test → List Test
 tests fate (send m draws extras) n more = sendTests m (fate (n .options) (m .now) (m .kind) draws extras) n more
 tests fate (takes now room) n more =
     record { passes = leb (recordSize * length (keep (isDue now) (n .pending))) room; number = 30 } ∷ more
-tests fate (choose o) n more =
-    record { passes = goodWord (o .loss); number = 20 }
-    ∷ record { passes = goodWord (o .replay); number = 21 }
-    ∷ record { passes = leb (o .least) (o .mean); number = 22 }
-    ∷ more
+tests fate (choose o) n more = optionTests o more
 
 abbrev pub journalTests : List ℕ → List ℕ → List Test
 journalTests w r =

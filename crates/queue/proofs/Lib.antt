@@ -1,0 +1,6 @@
+-- Laws that belong to no one function.
+pub mod Inserting
+pub mod Taking
+pub mod Walking
+pub mod Numbers
+pub mod Zeros
