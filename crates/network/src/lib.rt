@@ -478,7 +478,8 @@ fn replayed_by(decision: Decision) -> u64
 }
 
 fn one_if(b: bool) -> u64
-    ensures { λ r. ⌜ r ≡ bit b ⌝ }
+    ensures counted { λ r. ⌜ r ≡ bit b ⌝ }
+    ensures small { λ r. ⌜ r ≤ 1 ⌝ }
 {
     if b { 1 } else { 0 }
 }
@@ -790,12 +791,19 @@ impl Network {
             };
         }
         let decision = decide(me.options, now, kind, draws, extras);
-        if let Decision::Refused(refusal) = decision {
+        let told = told_by(decision);
+        let SendAnswer::Accepted {
+            lost: _,
+            replayed: _,
+            draws: _,
+            extras: _,
+        } = told
+        else {
             return Sent {
                 network: me,
-                answer: SendAnswer::Refused(refusal),
+                answer: told,
             };
-        }
+        };
         let n = me.pending;
         let copies = copies_by(decision);
         if queue::CAPACITY < n + copies {
@@ -822,7 +830,7 @@ impl Network {
         me.delayed = me.delayed + delayed_by(decision);
         Sent {
             network: me,
-            answer: told_by(decision),
+            answer: told,
         }
     }
 }

@@ -7,7 +7,7 @@ use native.Mathlib.Omega.{arith}
 use borrow.Author.Tests.{le-leb, eq-eqb, ne-eqb}
 use lib.ListN.{length}
 use Rattle.nights.specs.Record.{Record}
-use Rattle.nights.specs.Net.{capacity, sentLimit, Options, Network, fresh, every, insertBy, insertAll, Fate, refuse, lose, once, twice, bit, dues, lostBy, replayedBy, delayedBy, Draws, Letter, copies, Plain, send, take as takes, choose, isDue, isLater, sendOne, takeDue, setOptions, effect, goodOptions, goodRecord, ahead, rising, goodCounts, wellFormed}
+use Rattle.nights.specs.Net.{capacity, sentLimit, lastKind, lastSort, Options, Network, fresh, every, insertBy, insertAll, Fate, refuse, lose, once, twice, bit, dues, lostBy, replayedBy, delayedBy, Draws, Letter, copies, Plain, send, take as takes, choose, isDue, isLater, sendOne, takeDue, setOptions, effect, goodOptions, goodRecord, ahead, rising, goodCounts, wellFormed}
 use Rattle.nights.specs.Journal.{allowed}
 use Rattle.nights.specs.Rule.{replay}
 use Rattle.nights.proofs.Order.{Before, All, Ordered, Newer, before-earlier, all-map, all-both, all-keep, all-insert, all-insertAll, length-split, ordered-keep, ordered-insert, length-insertAll, Unlike, Apart, apart-keep, apart-insert}
@@ -113,15 +113,15 @@ abbrev pub Sound : Draws → Options → List Plain → Type 0
 Sound fate o [] = Unit {0}
 Sound fate o (c ∷ older) = Passed fate c (replay fate o older) × Sound fate o older
 
-record Fine (x : Record) : Type 0 where
-  low : 1 ≤ x .seq
-  kind : x .kind ≤ 10
-  sort : x .sort ≤ 1
+pub record Fine (x : Record) : Type 0 where
+  pub low : 1 ≤ x .seq
+  pub kind : x .kind ≤ lastKind
+  pub sort : x .sort ≤ lastSort
 
 pub record Fit (n : Network) : Type 0 where
   pub chances : goodOptions (n .options) ≡ true
-  fine : All Fine (n .pending)
-  apart : Apart (n .pending)
+  pub fine : All Fine (n .pending)
+  pub apart : Apart (n .pending)
   pub small : length (n .pending) ≤ capacity
   pub few : n .sent ≤ sentLimit
   pub lost : n .lost ≤ n .sent
@@ -206,13 +206,13 @@ fit-set o n p t =
       delayed = t .delayed;
     }
 
-fit-effect : (fate : Draws) (c : Plain) (n : Network) → Good n → Passed fate c n → Fit n → Fit (effect fate c n)
+pub fit-effect : (fate : Draws) (c : Plain) (n : Network) → Good n → Passed fate c n → Fit n → Fit (effect fate c n)
 unfolding effect
 fit-effect fate (send m draws extras) n g p t = fit-send m (fate (n .options) (m .now) (m .kind) draws extras) n g p t
 fit-effect fate (takes now room) n g p t = fit-take now n t
 fit-effect fate (choose o) n g p t = fit-set o n p t
 
-fit-fresh : (o : Options) → goodOptions o ≡ true → Fit (fresh o)
+pub fit-fresh : (o : Options) → goodOptions o ≡ true → Fit (fresh o)
 fit-fresh o h =
     record {
       chances = h;
@@ -232,7 +232,7 @@ fit-replay fate o [] h s = fit-fresh o h
 fit-replay fate o (c ∷ st) h s = fit-effect fate c (replay fate o st) (good-replay fate o st) (s .0) (fit-replay fate o st h (s .1))
 
 -- THE TEST passes
-every-true : (p : Record → Bool) (l : List Record) → All (λ (x : Record). p x ≡ true) l → every p l ≡ true
+pub every-true : (p : Record → Bool) (l : List Record) → All (λ (x : Record). p x ≡ true) l → every p l ≡ true
 unfolding every
 every-true p [] a = refl
 every-true p (x ∷ xs) a = rw (a .0, every-true p xs (a .1))
@@ -245,7 +245,7 @@ apart-ahead : (x y : Record) → Before x y → Unlike x y → ahead x y ≡ tru
 unfolding ahead
 apart-ahead x y b h = rw (before-earlier b, ne-eqb (x .seq) (y .seq) h)
 
-rises : (l : List Record) → Ordered l → Apart l → rising l ≡ true
+pub rises : (l : List Record) → Ordered l → Apart l → rising l ≡ true
 unfolding rising
 rises [] a b = refl
 rises (x ∷ xs) a b =

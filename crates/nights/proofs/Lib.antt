@@ -8,4 +8,5 @@ pub mod Exact
 pub mod Unique
 pub mod Back
 pub mod Claim
+pub mod Kept
 pub mod Worked

@@ -110,7 +110,7 @@ passed-choose : (o : Options) → goodWord (o .loss) ≡ true → goodWord (o .r
 unfolding goodOptions
 passed-choose o a b c = rw (a, b, c)
 
-passed-tests : (fate : Draws) (c : Plain) (n : Network) (more : List Test) → verdict (tests fate c n more) ≡ done
+pub passed-tests : (fate : Draws) (c : Plain) (n : Network) (more : List Test) → verdict (tests fate c n more) ≡ done
     → Passed fate c n × (verdict more ≡ done)
 unfolding tests
 passed-tests fate (send m draws extras) n more e = passed-send m (fate (n .options) (m .now) (m .kind) draws extras) n more e

@@ -4,3 +4,6 @@ pub mod Taking
 pub mod Walking
 pub mod Numbers
 pub mod Zeros
+pub mod Fronts
+pub mod Formed
+pub mod Packing

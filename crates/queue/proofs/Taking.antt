@@ -84,6 +84,11 @@ back-is at (x ∷ xs) = back-step (leb (x .due) at) x (front at xs) (back at xs)
 due-le : (at : ℕ) (l : List Record) → dueCount at l ≤ length l
 due-le at l = omega (arith, simp length-take at (ap length (front-is at l)))
 
+-- and the two together are as many as all
+pub parted : (at : ℕ) (l : List Record) → dueCount at l + length (back at l) ≡ length l
+parted at l =
+    omega (arith, ap length (back-is at l), length-drop (dueCount at l) l, due-le at l)
+
 pub due-in : (at : ℕ) (w : List ℕ) (n : ℕ) → dueCount at (recs w 0 n) ≤ n
 due-in at w n = omega (arith, due-le at (recs w 0 n), length-recs w 0 n)
 
