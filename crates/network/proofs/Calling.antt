@@ -7,13 +7,13 @@ use native.Mathlib.Omega.{arith}
 use borrow.Author.Tests.{le-leb, lt-leb, lt-ltb, le-ltb}
 use lib.Dec.{leb}
 use lib.ListN.{length, drop}
-use Rattle.nights.specs.Net.{capacity, sentLimit, lastKind, lastSort, Fate, refuse, lose, once, twice, dues, Letter, Plain as Call, send, take as takes, choose, keep, isDue, effect}
+use Rattle.nights.specs.Net.{capacity, sentLimit, lastKind, lastSort, Fate, refuse, lose, once, twice, bit, dues, lostBy, replayedBy, delayedBy, Letter, Plain as Call, send, take as takes, choose, keep, isDue, effect}
 use Rattle.nights.specs.Record.{recs}
-use Rattle.nights.specs.Draws.{fateOf}
+use Rattle.nights.specs.Draws.{Decided, fateOf}
 use Rattle.nights.specs.Journal.{Answer, done, refused, verdict, tests, optionTests, allowed, refusal}
 use Rattle.queue.proofs.Inserting.{length-recs}
 use Rattle.network.specs.declared.Network.{Network}
-use Rattle.network.specs.Answers.{fateAnswer}
+use Rattle.network.specs.Answers.{Sending, sending, fateAnswer}
 use Rattle.network.specs.Forms.{plainOf, structOf, isFormed}
 use Rattle.network.specs.Calls.{settling, callAnswer, callNetwork, formAnswer, listAnswer}
 use Rattle.network.proofs.WholeForm.{first, second}
@@ -138,3 +138,36 @@ module _ (s : Network) where
             send-well q =
                 passes-on g e a
                 ∙ rw (le-leb (length (recs (s .words) 0 (s .pending)) + length (dues g)) capacity (omega (arith, length-recs (s .words) 0 (s .pending))))
+
+-- ---- what a decided send tells
+
+pub answer-of : (a : Answer) (d : Decided) → sending a d .answer ≡ a
+unfolding sending
+answer-of done d = refl
+answer-of (refused k) d = refl
+
+pub refusing-fate : (f : Fate) (k : ℕ) → fateAnswer f ≡ refused k → f ≡ refuse k
+unfolding fateAnswer
+refusing-fate (refuse j) k e = let z : j ≡ k = cc in ap refuse z
+refusing-fate lose k e = let z : _≡_ {A = ℕ} 0 1 = cc in absurd (omega arith)
+refusing-fate (once d x) k e = let z : _≡_ {A = ℕ} 0 1 = cc in absurd (omega arith)
+refusing-fate (twice c d x y) k e = let z : _≡_ {A = ℕ} 0 1 = cc in absurd (omega arith)
+
+bit-small : (b : Bool) → bit b ≤ 1
+bit-small true = omega arith
+bit-small false = omega arith
+
+-- a send raises no counter by more than two
+pub record Few (f : Fate) : Type 0 where
+  pub queued : length (dues f) ≤ 2
+  pub lost : lostBy f ≤ 1
+  pub replayed : replayedBy f ≤ 1
+  pub delayed : delayedBy f ≤ 2
+
+pub few : (f : Fate) → Few f
+unfolding dues lostBy replayedBy delayedBy
+few (refuse k) = record { queued = omega arith; lost = omega arith; replayed = omega arith; delayed = omega arith }
+few lose = record { queued = omega arith; lost = omega arith; replayed = omega arith; delayed = omega arith }
+few (once d x) = record { queued = omega arith; lost = omega arith; replayed = omega arith; delayed = omega (arith, bit-small x) }
+few (twice c d x y) =
+    record { queued = omega arith; lost = omega arith; replayed = omega arith; delayed = omega (arith, bit-small x, bit-small y) }
