@@ -1,0 +1,6 @@
+-- Laws that belong to no one function.
+pub mod OptionForms
+pub mod WholeForm
+pub mod Deciding
+pub mod Maps
+pub mod Calling

@@ -1,0 +1,80 @@
+-- A network of the code and its plain form: the plain form of a struct, the struct of a plain form, and when a struct is well formed
+-- (RULES, "The network"). On well-formed structs the two maps are each other's inverse. Assumes nothing.
+use Prim.Native.Nat.{ℕ, _*_}
+use mathlib.Core.Bool.{Bool, _&&_}
+use mathlib.Core.List.{List}
+use lib.ListN.{length, drop}
+use lib.Dec.{leb}
+use Rattle.nights.specs.Record.{Record, recordSize, recs}
+use Rattle.nights.specs.Net.{capacity, Network as Plain, Letter, every, goodRecord, rising, wellFormed}
+use Rattle.queue.specs.Form.{zeros}
+use Rattle.queue.specs.Packed.{packed}
+use Rattle.network.specs.declared.NetworkOptions.{NetworkOptions}
+use Rattle.network.specs.declared.Network.{Network}
+use Rattle.network.specs.declared.Letter.{Letter as Told}
+use Rattle.network.specs.Options.{plainOptions, structOptions}
+
+abbrev pub plainOf : Network → Plain
+plainOf s =
+    record {
+      options = plainOptions (s .options);
+      pending = recs (s .words) 0 (s .pending);
+      seq = s .seq;
+      sent = s .sent;
+      delivered = s .delivered;
+      lost = s .lost;
+      replayed = s .replayed;
+      delayed = s .delayed;
+    }
+
+abbrev pub structOf : Plain → Network
+structOf n =
+    record {
+      options = structOptions (n .options);
+      words = packed (n .pending);
+      pending = length (n .pending);
+      seq = n .seq;
+      sent = n .sent;
+      delivered = n .delivered;
+      lost = n .lost;
+      replayed = n .replayed;
+      delayed = n .delayed;
+    }
+
+-- well formed: the plain form is, no more records are said to be pending than there is room for, and the words behind them are 0
+unfoldable pub isFormed : Network → Bool
+isFormed s =
+    wellFormed (plainOf s) && (leb (s .pending) capacity && zeros (drop (recordSize * s .pending) (s .words)))
+
+-- the same of a network whose words are lent
+abbrev pub isFormedOf : NetworkOptions → List ℕ → (pending seq sent delivered lost replayed delayed : ℕ) → Bool
+isFormedOf o w p q s d l r y =
+    isFormed
+    (record {
+      options = o;
+      words = w;
+      pending = p;
+      seq = q;
+      sent = s;
+      delivered = d;
+      lost = l;
+      replayed = r;
+      delayed = y;
+    })
+
+-- the part of it that speaks of the records
+unfoldable pub recordsFormed : List ℕ → ℕ → ℕ → Bool
+recordsFormed w n q =
+    every (goodRecord q) (recs w 0 n) && (rising (recs w 0 n) && zeros (drop (recordSize * n) w))
+
+-- what a send is told: from its parameters, and the code's own struct of it
+abbrev pub letterOf : (now sort origin to kind handle : ℕ) → Letter
+letterOf n s o t k h = record { now = n; sort = s; origin = o; to = t; kind = k; handle = h }
+
+abbrev pub plainLetter : Told → Letter
+plainLetter m = letterOf (m .now) (m .sort) (m .origin) (m .to) (m .kind) (m .handle)
+
+-- its copy that is due at a tick, under a number
+abbrev pub copyAt : Letter → (due seq : ℕ) → Record
+copyAt m d q =
+    record { due = d; seq = q; sentAt = m .now; sort = m .sort; origin = m .origin; to = m .to; kind = m .kind; handle = m .handle }

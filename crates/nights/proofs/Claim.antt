@@ -1,0 +1,38 @@
+-- The claim, whole. Assumes nothing.
+use Prim.Native.Nat.{ℕ, _≤_}
+use mathlib.Core.Path.{_≡_, refl, sym, ap, _∙_, subst}
+use mathlib.Core.List.{List, _∷_, _++_}
+use mathlib.Core.Bool.{true}
+use Rattle.nights.specs.Net.{Options, Draws, Plain, goodOptions}
+use Rattle.nights.specs.Journal.{Call, mark}
+use Rattle.nights.specs.Rule.{reach, stack, stands, replay, recorded, Earlier, Claim}
+use Rattle.nights.specs.Draws.{fateOf}
+use Rattle.nights.proofs.Run.{the-network-is-told, fold-of-standing, rewinds, no-further, mark-holds, the-journal-holds, size-stays}
+use Rattle.nights.proofs.Back.{earlier-time}
+use Rattle.nights.proofs.Exact.{the-pending-are-exactly}
+
+pub claim : (fate : Draws) (o : Options) → goodOptions o ≡ true → (rest : List ℕ) (cs : List Call) → Claim fate o rest cs
+claim fate o good rest cs =
+    record {
+      told = the-network-is-told fate o good rest cs;
+      exactly = the-pending-are-exactly fate o good rest cs;
+      folds = fold-of-standing fate o good rest cs;
+      goesBack =
+          λ (k : ℕ) (h : k ≤ reach fate o rest cs).
+          let e : Earlier fate o rest cs k = earlier-time fate o rest cs k in
+          let r = rewinds fate o good rest cs k h in
+          (e, r .0, r .1 ∙ sym (fold-of-standing fate o good rest (e .before) ∙ ap (λ (l : List Plain). replay fate o l) (e .there)));
+      stops = no-further fate o good rest cs;
+      marks =
+          λ (before later : List Call) (e : cs ≡ before ++ (mark ∷ later)).
+          subst (λ (l : List Call). (more : List Plain) × (stands fate o rest l ≡ stands fate o rest before ++ more)) (sym e)
+          (mark-holds fate o good rest before later);
+      holds =
+          the-journal-holds fate o good rest cs (reach fate o rest cs)
+          (recorded fate o (reach fate o rest cs) (stack fate o rest cs)) refl refl;
+      size = size-stays fate o good rest cs;
+    }
+
+-- for the draws and extras as a send reads them
+pub claim-of-the-rules : (o : Options) → goodOptions o ≡ true → (rest : List ℕ) (cs : List Call) → Claim fateOf o rest cs
+claim-of-the-rules o good rest cs = claim fateOf o good rest cs

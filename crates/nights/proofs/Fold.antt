@@ -1,0 +1,215 @@
+-- Step 3: the fold of a standing list has the pending list and the counters that the rule says. Assumes nothing.
+use Prim.Native.Nat.{ℕ, _+_, _≤_}
+use mathlib.Core.Path.{_≡_, refl, sym, ap, _∙_}
+use mathlib.Core.List.{List, [], _∷_, _++_, map, reverse, reverse-cons}
+use mathlib.Core.Bool.{Bool, true, false, cond}
+use native.Mathlib.Omega.{arith}
+use lib.ListN.{length, length-append, length-map}
+use Rattle.nights.specs.Record.{Record}
+use Rattle.nights.specs.Net.{Options, Network, fresh, keep, insertBy, insertAll, Fate, dues, lostBy, replayedBy, delayedBy, Draws, Letter, copies, Plain, send, take as takes, choose, isLater, effect, goodOptions}
+use Rattle.nights.specs.Rule.{replay, optionsBy, optionsRule, fateBy, fates, total, makes, Made, followed, made, missedBy, untaken, waits, copyOf, pendingRule, deliveredRule, sentRule, lostRule, replayedRule, delayedRule, Told}
+use Rattle.nights.proofs.Order.{All, Ordered, Newer, all-insert, length-split, keep-keep, keep-all, ordered-insert, insertAll-append, length-insertAll, unseen, seen}
+use Rattle.nights.proofs.Good.{Numbered, Good, copyAt, raise, newer, length-copies, good-effect, good-fresh, good-replay, Sound, Fit, fit-replay}
+
+-- the fold again, from any network and with the oldest first
+unfoldable pub forward : Draws → Network → List Plain → Network
+forward fate n [] = n
+forward fate n (c ∷ later) = forward fate (effect fate c n) later
+
+forward-append : (fate : Draws) (n : Network) (a b : List Plain) → forward fate n (a ++ b) ≡ forward fate (forward fate n a) b
+unfolding forward
+forward-append fate n [] b = refl
+forward-append fate n (c ∷ a) b = forward-append fate (effect fate c n) a b
+
+pub replay-forward : (fate : Draws) (o : Options) (st : List Plain) → replay fate o st ≡ forward fate (fresh o) (reverse st)
+unfolding replay forward
+replay-forward fate o [] = refl
+replay-forward fate o (c ∷ st) =
+    ap (λ (n : Network). effect fate c n) (replay-forward fate o st)
+    ∙ sym (ap (λ (l : List Plain). forward fate (fresh o) l) (reverse-cons c st) ∙ forward-append fate (fresh o) (reverse st) (c ∷ []))
+
+-- a filter passes the insertion of new copies
+seen-first : (b : Bool) (f : Record → Bool) (r : Record) (rs l : List Record) → f r ≡ b → Ordered l → Newer r l
+    → insertAll rs (keep f (insertBy r l)) ≡ insertAll (cond b (r ∷ rs) rs) (keep f l)
+unfolding insertAll
+seen-first true f r rs l e a b = ap (λ (z : List Record). insertAll rs z) (seen f r l a b e)
+seen-first false f r rs l e a b = ap (λ (z : List Record). insertAll rs z) (unseen f r l e)
+
+copies-seen : (f : Record → Bool) (m : Letter) (q : ℕ) (ds : List ℕ) (l : List Record) → Ordered l → Numbered q l
+    → keep f (insertAll (copies m q ds) l) ≡ insertAll (keep f (copies m q ds)) (keep f l)
+unfolding copies insertAll keep
+copies-seen f m q [] l a b = refl
+copies-seen f m q (d ∷ ds) l a b =
+    copies-seen f m (q + 1) ds (insertBy (copyAt m q d) l)
+    (ordered-insert (copyAt m q d) l a (newer m q d l b))
+    (all-insert (λ (x : Record). x .seq ≤ q + 1) (copyAt m q d) l (omega arith) (raise q (q + 1) (omega arith) l b))
+    ∙ seen-first (f (copyAt m q d)) f (copyAt m q d) (keep f (copies m (q + 1) ds)) l refl a (newer m q d l b)
+
+-- ONE CALL, as the rule sees it
+module _ (fate : Draws) where
+  one-options : (c : Plain) (n : Network) → effect fate c n .options ≡ optionsBy (n .options) c
+  unfolding effect optionsBy
+  one-options (send m draws extras) n = refl
+  one-options (takes now room) n = refl
+  one-options (choose o) n = refl
+
+  one-seq : (c : Plain) (n : Network) → effect fate c n .seq ≡ n .seq + length (makes fate (n .options) (n .seq) c)
+  unfolding effect makes
+  one-seq (send m draws extras) n = rw (length-copies m (n .seq) (dues (fate (n .options) (m .now) (m .kind) draws extras)))
+  one-seq (takes now room) n = omega arith
+  one-seq (choose o) n = omega arith
+
+  one-pending : (c : Plain) (later : List Plain) (n : Network) → Good n
+      → keep (untaken later) (effect fate c n .pending)
+      ≡ insertAll (keep (untaken later) (makes fate (n .options) (n .seq) c)) (keep (untaken (c ∷ later)) (n .pending))
+  unfolding effect makes untaken missedBy keep insertAll
+  one-pending (send m draws extras) later n g =
+      copies-seen (untaken later) m (n .seq) (dues (fate (n .options) (m .now) (m .kind) draws extras)) (n .pending) (g .ordered) (g .numbered)
+  one-pending (takes now room) later n g = keep-keep (untaken later) (isLater now) (n .pending)
+  one-pending (choose o) later n g = refl
+
+  one-sent : (c : Plain) (n : Network) → effect fate c n .sent ≡ n .sent + length (fateBy fate (n .options) c)
+  unfolding effect fateBy
+  one-sent (send m draws extras) n = refl
+  one-sent (takes now room) n = omega arith
+  one-sent (choose o) n = omega arith
+
+  one-lost : (c : Plain) (n : Network) → effect fate c n .lost ≡ n .lost + total lostBy (fateBy fate (n .options) c)
+  unfolding effect fateBy total
+  one-lost (send m draws extras) n = omega arith
+  one-lost (takes now room) n = omega arith
+  one-lost (choose o) n = omega arith
+
+  one-replayed : (c : Plain) (n : Network) → effect fate c n .replayed ≡ n .replayed + total replayedBy (fateBy fate (n .options) c)
+  unfolding effect fateBy total
+  one-replayed (send m draws extras) n = omega arith
+  one-replayed (takes now room) n = omega arith
+  one-replayed (choose o) n = omega arith
+
+  one-delayed : (c : Plain) (n : Network) → effect fate c n .delayed ≡ n .delayed + total delayedBy (fateBy fate (n .options) c)
+  unfolding effect fateBy total
+  one-delayed (send m draws extras) n = omega arith
+  one-delayed (takes now room) n = omega arith
+  one-delayed (choose o) n = omega arith
+
+-- ALL CALLS
+
+total-append : (f : Fate → ℕ) (a b : List Fate) → total f (a ++ b) ≡ total f a + total f b
+unfolding total
+total-append f [] b = omega arith
+total-append f (x ∷ a) b = let h = total-append f a b in omega arith
+
+all-true : (l : List Record) → All (λ (x : Record). untaken [] x ≡ true) l
+unfolding untaken
+all-true [] = tt
+all-true (x ∷ xs) = (refl, all-true xs)
+
+-- the copies of one call among all
+first-step : (b : Bool) (x : Made) (l : List Made) (m k : List Record) → map copyOf l ≡ m ++ k
+    → map copyOf (cond b (x ∷ l) l) ≡ cond b (x .copy ∷ m) m ++ k
+first-step true x l m k e = ap (λ (z : List Record). x .copy ∷ z) e
+first-step false x l m k e = e
+
+first-copies : (later : List Plain) (rs : List Record) (ms : List Made)
+    → map copyOf (keep waits (map (followed later) rs ++ ms))
+    ≡ keep (untaken later) rs ++ map copyOf (keep waits ms)
+unfolding keep
+first-copies later [] ms = refl
+first-copies later (r ∷ rs) ms =
+    first-step (untaken later r) (followed later r)
+    (keep waits (map (followed later) rs ++ ms))
+    (keep (untaken later) rs)
+    (map copyOf (keep waits ms))
+    (first-copies later rs ms)
+
+module _ (fate : Draws) where
+  fold-options : (cs : List Plain) (n : Network) → forward fate n cs .options ≡ optionsRule (n .options) cs
+  unfolding forward optionsRule
+  fold-options [] n = refl
+  fold-options (c ∷ later) n = fold-options later (effect fate c n) ∙ ap (λ (o : Options). optionsRule o later) (one-options fate c n)
+
+  fold-seq : (cs : List Plain) (n : Network) → forward fate n cs .seq ≡ n .seq + length (made fate (n .options) (n .seq) cs)
+  unfolding forward made
+  fold-seq [] n = omega arith
+  fold-seq (c ∷ later) n =
+      let rs : List Record = makes fate (n .options) (n .seq) c in
+      let ms : List Made = made fate (optionsBy (n .options) c) (n .seq + length rs) later in
+      let h : forward fate (effect fate c n) later .seq ≡ effect fate c n .seq + length ms =
+      rw (← (one-options fate c n), ← (one-seq fate c n)) (fold-seq later (effect fate c n)) in
+      omega (
+        arith,
+        h,
+        one-seq fate c n,
+        length-append (map (followed later) rs) ms,
+        length-map rs (followed later),
+      )
+
+  fold-pending : (cs : List Plain) (n : Network) → Good n
+      → forward fate n cs .pending
+      ≡ insertAll (map copyOf (keep waits (made fate (n .options) (n .seq) cs))) (keep (untaken cs) (n .pending))
+  unfolding forward made keep insertAll
+  fold-pending [] n g = sym (keep-all (untaken []) (n .pending) (all-true (n .pending)))
+  fold-pending (c ∷ later) n g =
+      let rs : List Record = makes fate (n .options) (n .seq) c in
+      let ms : List Made = made fate (optionsBy (n .options) c) (n .seq + length rs) later in
+      let h : forward fate (effect fate c n) later .pending
+      ≡ insertAll (map copyOf (keep waits ms)) (keep (untaken later) (effect fate c n .pending)) =
+      rw (← (one-options fate c n), ← (one-seq fate c n)) (fold-pending later (effect fate c n) (good-effect fate c n g)) in
+      h
+      ∙ (ap (λ (z : List Record). insertAll (map copyOf (keep waits ms)) z) (one-pending fate c later n g)
+      ∙ (sym (insertAll-append (keep (untaken later) rs) (map copyOf (keep waits ms)) (keep (untaken (c ∷ later)) (n .pending)))
+      ∙ ap (λ (z : List Record). insertAll z (keep (untaken (c ∷ later)) (n .pending))) (sym (first-copies later rs ms))))
+
+  fold-sent : (cs : List Plain) (n : Network) → forward fate n cs .sent ≡ n .sent + length (fates fate (n .options) cs)
+  unfolding forward fates
+  fold-sent [] n = omega arith
+  fold-sent (c ∷ later) n =
+      let h : forward fate (effect fate c n) later .sent ≡ effect fate c n .sent + length (fates fate (optionsBy (n .options) c) later) =
+      rw (← (one-options fate c n)) (fold-sent later (effect fate c n)) in
+      omega (arith, h, one-sent fate c n, length-append (fateBy fate (n .options) c) (fates fate (optionsBy (n .options) c) later))
+
+  -- a counter that each call raises by what the fates say
+  module _ (count : Network → ℕ) (by : Fate → ℕ)
+      (one : (c : Plain) (n : Network) → count (effect fate c n) ≡ count n + total by (fateBy fate (n .options) c)) where
+    fold-total : (cs : List Plain) (n : Network) → count (forward fate n cs) ≡ count n + total by (fates fate (n .options) cs)
+    unfolding forward fates total
+    fold-total [] n = omega arith
+    fold-total (c ∷ later) n =
+        let h : count (forward fate (effect fate c n) later) ≡ count (effect fate c n) + total by (fates fate (optionsBy (n .options) c) later) =
+        rw (← (one-options fate c n)) (fold-total later (effect fate c n)) in
+        omega (arith, h, one c n, total-append by (fateBy fate (n .options) c) (fates fate (optionsBy (n .options) c) later))
+
+-- STEP 3
+module _ (fate : Draws) (o : Options) (st : List Plain) where
+  told-forward : (n : Network) → n ≡ forward fate (fresh o) (reverse st) → Good n → Fit n → Told fate o (reverse st) n
+  unfolding keep
+  told-forward n e g t =
+      let r : List Plain = reverse st in
+      let m : Network = forward fate (fresh o) r in
+      let ms : List Made = made fate o 0 r in
+      let pending : n .pending ≡ pendingRule fate o r = ap (λ (x : Network). x .pending) e ∙ fold-pending fate r (fresh o) (good-fresh o) in
+      let seq : n .seq ≡ length ms = omega (arith, ap (λ (x : Network). x .seq) e, fold-seq fate r (fresh o)) in
+      let sent : n .sent ≡ sentRule fate o r = omega (arith, ap (λ (x : Network). x .sent) e, fold-sent fate r (fresh o)) in
+      let lost : n .lost ≡ lostRule fate o r =
+      omega (arith, ap (λ (x : Network). x .lost) e, fold-total fate (λ (x : Network). x .lost) lostBy (one-lost fate) r (fresh o)) in
+      let replayed : n .replayed ≡ replayedRule fate o r =
+      omega (arith, ap (λ (x : Network). x .replayed) e, fold-total fate (λ (x : Network). x .replayed) replayedBy (one-replayed fate) r (fresh o)) in
+      let delayed : n .delayed ≡ delayedRule fate o r =
+      omega (arith, ap (λ (x : Network). x .delayed) e, fold-total fate (λ (x : Network). x .delayed) delayedBy (one-delayed fate) r (fresh o)) in
+      let size : length (n .pending) ≡ length (keep waits ms) =
+      ap length pending ∙ omega (arith, length-insertAll (map copyOf (keep waits ms)) [], length-map (keep waits ms) copyOf) in
+      let delivered : n .delivered ≡ deliveredRule fate o r = omega (arith, g .counted, length-split waits ms) in
+      record {
+        options = ap (λ (x : Network). x .options) e ∙ fold-options fate r (fresh o);
+        pending = pending;
+        seq = seq;
+        sent = sent;
+        delivered = delivered;
+        lost = lost;
+        replayed = replayed;
+        delayed = delayed;
+        balance = omega (arith, t .even, g .counted, sent, replayed, delivered, lost, ap length pending);
+      }
+
+  pub told : goodOptions o ≡ true → Sound fate o st → Told fate o (reverse st) (replay fate o st)
+  told h s = told-forward (replay fate o st) (replay-forward fate o st) (good-replay fate o st) (fit-replay fate o st h s)

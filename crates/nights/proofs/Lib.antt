@@ -1,0 +1,12 @@
+-- Laws of the plain form, and the theorem of the journal.
+pub mod Order
+pub mod Good
+pub mod Fold
+pub mod Undo
+pub mod Run
+pub mod Exact
+pub mod Unique
+pub mod Back
+pub mod Claim
+pub mod Kept
+pub mod Worked

@@ -1,0 +1,6 @@
+-- The plain form of the network and the journal: what the contracts of both cite, and the theorem that joins them.
+pub mod Record
+pub mod Net
+pub mod Draws
+pub mod Journal
+pub mod Rule

@@ -1,0 +1,9 @@
+-- Laws that belong to no one function.
+pub mod Inserting
+pub mod Taking
+pub mod Walking
+pub mod Numbers
+pub mod Zeros
+pub mod Fronts
+pub mod Formed
+pub mod Packing

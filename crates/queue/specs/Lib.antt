@@ -1,0 +1,5 @@
+-- The definitions that the crate's contracts cite.
+pub mod Plain
+pub mod Places
+pub mod Form
+pub mod Packed
