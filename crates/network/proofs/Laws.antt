@@ -2,28 +2,27 @@
 -- counters balance; a take removes exactly what is due, in order; a send adds exactly the copies of its fate and changes no other
 -- record; a change of options changes the options alone; and an answer is settled by what it tells. Assumes nothing.
 use mathlib.Core.Path.{_≡_, refl, sym, ap, _∙_}
-use mathlib.Core.List.{List, [], _∷_, _++_, List·Memᴰ as Member}
-use mathlib.Core.Bool.{Bool, true, false, cond, not}
+use mathlib.Core.List.{List, List·Memᴰ as Member}
+use mathlib.Core.Bool.{Bool, true, false, cond}
 use Prim.Native.Nat.{ℕ, _+_, _≤_, _<_}
 use native.Mathlib.Omega.{arith}
 use borrow.Author.Tests.{le-leb, lt-leb}
 use lib.Dec.{leb, eqb}
-use lib.ListN.{length}
 use Rattle.nights.specs.Record.{Record}
-use Rattle.nights.specs.Net.{Options, Network as Plain, Fate, dues, Letter, copies, Plain as Call, send, take, choose, keep, isDue, isLater, insertAll, setOptions, effect, wellFormed}
+use Rattle.nights.specs.Net.{Options, Network as Plain, dues, Letter, copies, Plain as Call, send, take, choose, keep, isDue, isLater, insertAll, setOptions, effect, wellFormed}
 use Rattle.nights.specs.Draws.{fateOf}
-use Rattle.nights.specs.Journal.{Answer, done, refused, verdict, tests}
+use Rattle.nights.specs.Journal.{Answer, done, refused}
 use Rattle.nights.proofs.Order.{All, Ordered, all-map, keep-all, ordered-keep, unseen-all}
 use Rattle.nights.proofs.Good.{copies-above}
 use Rattle.nights.proofs.Exact.{in-keep, of-keep}
-use Rattle.nights.proofs.Kept.{Counts, good, call-keeps}
+use Rattle.nights.proofs.Kept.{good, call-keeps}
 use Rattle.network.specs.declared.Network.{Network}
 use Rattle.network.specs.declared.Refusal.{Refusal}
 use Rattle.network.specs.declared.Refusal.the-variants.{BadLoss, BadReplay, MinOverMean, IllFormed, BadKindOrSort, SentLimit, ShortDraws, ShortExtras, LateTick, Full, ShortOutput}
 use Rattle.network.specs.declared.Settled.{Settled}
 use Rattle.network.specs.declared.Settled.the-variants.{Done, Refused}
 use Rattle.network.specs.Answers.{number, settledOf}
-use Rattle.network.specs.Forms.{plainOf, structOf, isFormed}
+use Rattle.network.specs.Forms.{plainOf, isFormed}
 use Rattle.network.specs.Calls.{callAnswer, callNetwork}
 use Rattle.network.proofs.Maps.{plain-formed, in-order, counts, plain-of-struct, struct-formed}
 use Rattle.network.proofs.Calling.{call-ill, call-well, follows}
