@@ -1,19 +1,19 @@
 -- A call's answer test by test, and the network that each answer leaves. Assumes nothing.
-use mathlib.Core.Path.{_≡_, refl, sym, ap, _∙_}
-use mathlib.Core.List.{List, [], _∷_, _++_}
-use mathlib.Core.Bool.{Bool, true, false, _&&_}
+use mathlib.Core.Path.{_≡_, refl, ap, _∙_}
+use mathlib.Core.List.{List, [], _∷_}
+use mathlib.Core.Bool.{Bool, true, false}
 use Prim.Native.Nat.{ℕ, _+_, _*_, _≤_, _<_}
 use native.Mathlib.Omega.{arith}
 use borrow.Author.Tests.{le-leb, lt-leb, lt-ltb, le-ltb}
 use lib.Dec.{leb}
-use lib.ListN.{length, drop}
-use Rattle.nights.specs.Net.{capacity, sentLimit, lastKind, lastSort, Fate, refuse, lose, once, twice, bit, dues, lostBy, replayedBy, delayedBy, Letter, Plain as Call, send, take as takes, choose, keep, isDue, effect}
+use lib.ListN.{length}
+use Rattle.nights.specs.Net.{capacity, sentLimit, lastKind, lastSort, Fate, refuse, lose, once, twice, bit, dues, lostBy, replayedBy, delayedBy, Letter, Plain as Call, send, take as takes, keep, isDue, effect}
 use Rattle.nights.specs.Record.{recs}
 use Rattle.nights.specs.Draws.{Decided, fateOf}
-use Rattle.nights.specs.Journal.{Answer, done, refused, verdict, tests, optionTests, allowed, refusal}
+use Rattle.nights.specs.Journal.{Answer, done, refused, verdict, tests}
 use Rattle.queue.proofs.Inserting.{length-recs}
 use Rattle.network.specs.declared.Network.{Network}
-use Rattle.network.specs.Answers.{Sending, sending, fateAnswer}
+use Rattle.network.specs.Answers.{sending, fateAnswer}
 use Rattle.network.specs.Forms.{plainOf, structOf, isFormed}
 use Rattle.network.specs.Calls.{settling, callAnswer, callNetwork, formAnswer, listAnswer}
 use Rattle.network.proofs.WholeForm.{first, second}

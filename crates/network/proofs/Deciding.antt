@@ -1,7 +1,7 @@
 -- The fate of a send step by step: what each test on the way says of the whole. Assumes nothing.
-use mathlib.Core.Path.{_≡_, refl, sym, ap, _∙_}
+use mathlib.Core.Path.{_≡_, refl}
 use mathlib.Core.List.{List}
-use mathlib.Core.Bool.{Bool, true, false, cond, not, _&&_}
+use mathlib.Core.Bool.{Bool, true, false, cond, not}
 use Prim.Native.Nat.{ℕ, _+_, _^_, _≤_, _<_}
 use native.Mathlib.Omega.{arith}
 use borrow.Author.Tests.{le-leb, lt-leb}
@@ -15,7 +15,7 @@ use Rattle.nights.specs.Net.{Options, once, twice}
 use Rattle.nights.specs.Draws.{Decided, refusing, isFaulted, extrasFor, extraAt, dueAt, isTick, isLate, alone, both, afterReplay, afterLoss, decided}
 use Rattle.network.specs.declared.NetworkOptions.{NetworkOptions}
 use Rattle.network.specs.Options.{plainOptions}
-use Rattle.network.specs.Answers.{Reached, at, past, tickFrom}
+use Rattle.network.specs.Answers.{at, past, tickFrom}
 use Rattle.network.proofs.OptionForms.{Held}
 use Rattle.network.proofs.WholeForm.{first, second}
 

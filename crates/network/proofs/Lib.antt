@@ -4,3 +4,4 @@ pub mod WholeForm
 pub mod Deciding
 pub mod Maps
 pub mod Calling
+pub mod Laws

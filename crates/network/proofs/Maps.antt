@@ -1,31 +1,29 @@
 -- The two maps between a network of the code and its plain form. On well-formed networks each is the other's inverse, and what the
 -- code does to the struct is what the plain form's calls do. Assumes nothing.
-use mathlib.Core.Path.{_≡_, refl, sym, ap, _∙_}
+use mathlib.Core.Path.{_≡_, sym, ap, _∙_}
 use mathlib.Core.List.{List, _++_}
-use mathlib.Core.Bool.{Bool, true, false, _&&_}
+use mathlib.Core.Bool.{Bool, true}
 use Prim.Native.Nat.{ℕ, _+_, _-_, _*_, _≤_}
 use native.Mathlib.Omega.{arith}
 use borrow.Author.Tests.{leb-true, le-leb}
 use lib.Dec.{T, leb}
-use lib.Ieee.{binary64, toBits, ofBits}
 use lib.ListN.{length, drop}
 use Rattle.chance.specs.Probability.{goodWord}
 use Rattle.chance.proofs.ThereAndBack.{there-and-back}
 use Rattle.nights.specs.Record.{Record, recordSize, wordsOf, recs}
-use Rattle.nights.specs.Net.{capacity, Options, Network as Plain, Fate, dues, lostBy, replayedBy, delayedBy, Letter, copies, keep, isDue, isLater, insertAll, sendOne, takeDue, setOptions, goodOptions, wellFormed}
+use Rattle.nights.specs.Net.{capacity, Network as Plain, Fate, dues, lostBy, replayedBy, delayedBy, Letter, copies, keep, isDue, isLater, insertAll, sendOne, takeDue, setOptions, goodOptions, wellFormed}
 use Rattle.nights.proofs.Order.{Ordered, length-split, length-insertAll}
 use Rattle.nights.proofs.Good.{length-copies}
 use Rattle.nights.proofs.Kept.{both, Counts, counted, good, options-good}
 use Rattle.queue.specs.Form.{zeros}
 use Rattle.queue.specs.Packed.{packed}
-use Rattle.queue.specs.Places.{front, back, dueCount, leftWords, goneWords, insertedAll}
+use Rattle.queue.specs.Places.{dueCount, leftWords, goneWords, insertedAll}
 use Rattle.queue.proofs.Inserting.{length-recs}
 use Rattle.queue.proofs.Fronts.{front-is, back-is}
-use Rattle.queue.proofs.Taking.{parted}
 use Rattle.queue.proofs.Packing.{unpacked, repacked, packed-zeros, packed-insertAll, packed-left, packed-gone}
 use Rattle.network.specs.declared.NetworkOptions.{NetworkOptions}
 use Rattle.network.specs.declared.Network.{Network}
-use Rattle.network.specs.Options.{plainOptions, structOptions}
+use Rattle.network.specs.Options.{plainOptions}
 use Rattle.network.specs.Forms.{plainOf, structOf, isFormed}
 use Rattle.network.proofs.OptionForms.{Held, options-back}
 

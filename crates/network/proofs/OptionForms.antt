@@ -10,7 +10,7 @@ use lib.Ieee.{Float, nan, inf, fin, binary64, fits, isNan, toBits, ofBits}
 use lib.Ieee.Bits.{ofBits-toBits}
 use Rattle.chance.specs.Probability.{goodWord, goodProbability}
 use Rattle.nights.specs.Net.{Options, goodOptions}
-use Rattle.nights.specs.Journal.{Answer, done, refused, verdict, optionTests}
+use Rattle.nights.specs.Journal.{done, refused, verdict, optionTests}
 use Rattle.nights.proofs.Kept.{both}
 use Rattle.network.specs.declared.NetworkOptions.{NetworkOptions}
 use Rattle.network.specs.Options.{plainOptions, structOptions, perfectOptions}

@@ -6,7 +6,7 @@ use Prim.Native.Nat.{ℕ, _+_, _*_, _≤_, _<_}
 use native.Mathlib.Omega.{arith}
 use borrow.Author.Tests.{le-leb, lt-leb, eq-eqb, ne-eqb}
 use lib.Dec.{leb, eqb}
-use lib.ListN.{length, drop}
+use lib.ListN.{drop}
 use Rattle.nights.specs.Record.{recs}
 use Rattle.nights.specs.Net.{capacity, sentLimit, every, goodRecord, rising, goodOptions, goodCounts, wellFormed}
 use Rattle.queue.specs.Form.{inOrder, distinct, zeros}
@@ -15,7 +15,7 @@ use Rattle.nights.proofs.Kept.{both}
 use Rattle.queue.proofs.Inserting.{length-recs}
 use Rattle.network.specs.declared.Network.{Network}
 use Rattle.network.specs.Options.{plainOptions}
-use Rattle.network.specs.Forms.{plainOf, isFormed, recordsFormed}
+use Rattle.network.specs.Forms.{isFormed, recordsFormed}
 
 -- ---- of a conjunction
 

@@ -82,32 +82,33 @@ of-insertAll y (r ∷ rs) l p = go (of-insertAll y rs (insertBy r l) p)
     go (inl q) = inl (there q)
     go (inr q) = last (of-insert y r l q)
 
-in-keep-step : (b : Bool) (m x : Made) (xs k : List Made) → (m ≡ x → b ≡ true) → (m ≡ x) ⊎ Member m xs → (Member m xs → Member m k)
-    → Member m (cond b (x ∷ k) k)
-in-keep-step true m x xs k h (inl e) f = here e
-in-keep-step true m x xs k h (inr p) f = there (f p)
-in-keep-step false m x xs k h (inl e) f = let y = h e in let z : _≡_ {A = ℕ} 0 1 = cc in absurd (omega arith)
-in-keep-step false m x xs k h (inr p) f = f p
+module _ {A : Type 0} where
+  in-keep-step : (b : Bool) (m x : A) (xs k : List A) → (m ≡ x → b ≡ true) → (m ≡ x) ⊎ Member m xs → (Member m xs → Member m k)
+      → Member m (cond b (x ∷ k) k)
+  in-keep-step true m x xs k h (inl e) f = here e
+  in-keep-step true m x xs k h (inr p) f = there (f p)
+  in-keep-step false m x xs k h (inl e) f = let y = h e in let z : _≡_ {A = ℕ} 0 1 = cc in absurd (omega arith)
+  in-keep-step false m x xs k h (inr p) f = f p
 
-in-keep : (p : Made → Bool) (m : Made) (l : List Made) → p m ≡ true → Member m l → Member m (keep p l)
-unfolding keep
-in-keep p m [] h q = absurd (not-nil q)
-in-keep p m (x ∷ xs) h q =
-    in-keep-step (p x) m x xs (keep p xs) (λ (e : m ≡ x). ap p (sym e) ∙ h) (cases-cons q) (λ (j : Member m xs). in-keep p m xs h j)
+  pub in-keep : (p : A → Bool) (m : A) (l : List A) → p m ≡ true → Member m l → Member m (keep p l)
+  unfolding keep
+  in-keep p m [] h q = absurd (not-nil q)
+  in-keep p m (x ∷ xs) h q =
+      in-keep-step (p x) m x xs (keep p xs) (λ (e : m ≡ x). ap p (sym e) ∙ h) (cases-cons q) (λ (j : Member m xs). in-keep p m xs h j)
 
-of-keep-step : (b : Bool) (p : Made → Bool) (m x : Made) (xs k : List Made) → p x ≡ b → Member m (cond b (x ∷ k) k) → (Member m k → (p m ≡ true) × Member m xs)
-    → (p m ≡ true) × Member m (x ∷ xs)
-of-keep-step true p m x xs k h q f = go (cases-cons q)
-  where
-    go : (m ≡ x) ⊎ Member m k → (p m ≡ true) × Member m (x ∷ xs)
-    go (inl e) = (ap p e ∙ h, here e)
-    go (inr j) = (f j .0, there (f j .1))
-of-keep-step false p m x xs k h q f = (f q .0, there (f q .1))
+  of-keep-step : (b : Bool) (p : A → Bool) (m x : A) (xs k : List A) → p x ≡ b → Member m (cond b (x ∷ k) k) → (Member m k → (p m ≡ true) × Member m xs)
+      → (p m ≡ true) × Member m (x ∷ xs)
+  of-keep-step true p m x xs k h q f = go (cases-cons q)
+    where
+      go : (m ≡ x) ⊎ Member m k → (p m ≡ true) × Member m (x ∷ xs)
+      go (inl e) = (ap p e ∙ h, here e)
+      go (inr j) = (f j .0, there (f j .1))
+  of-keep-step false p m x xs k h q f = (f q .0, there (f q .1))
 
-of-keep : (p : Made → Bool) (m : Made) (l : List Made) → Member m (keep p l) → (p m ≡ true) × Member m l
-unfolding keep
-of-keep p m [] q = absurd (not-nil q)
-of-keep p m (x ∷ xs) q = of-keep-step (p x) p m x xs (keep p xs) refl q (λ (j : Member m (keep p xs)). of-keep p m xs j)
+  pub of-keep : (p : A → Bool) (m : A) (l : List A) → Member m (keep p l) → (p m ≡ true) × Member m l
+  unfolding keep
+  of-keep p m [] q = absurd (not-nil q)
+  of-keep p m (x ∷ xs) q = of-keep-step (p x) p m x xs (keep p xs) refl q (λ (j : Member m (keep p xs)). of-keep p m xs j)
 
 in-copies : (m : Made) (l : List Made) → Member m l → Member (m .copy) (map copyOf l)
 in-copies m [] q = absurd (not-nil q)

@@ -1,6 +1,6 @@
 -- The two walks, over the order and over the numbers, together tell what the plain form asks of its records: each good, and all of
 -- them rising with no number twice. Assumes nothing.
-use Prim.Native.Nat.{ℕ, _<_}
+use Prim.Native.Nat.{ℕ}
 use mathlib.Core.Path.{_≡_, refl}
 use mathlib.Core.List.{List, [], _∷_}
 use mathlib.Core.Bool.{Bool, true, false, cond, not, _&&_}

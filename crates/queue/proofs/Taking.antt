@@ -1,5 +1,5 @@
--- The mathematics of `take` over an array of words. Assumes nothing.
-use Prim.Native.Nat.{ℕ, zero, suc, _+_, _-_, _*_, _≤_, _<_}
+-- Those in front that are due are the first of the words: they are written out, the others move down, and zeros follow. Assumes nothing.
+use Prim.Native.Nat.{ℕ, _+_, _-_, _*_, _≤_, _<_}
 use mathlib.Core.Path.{_≡_, refl, sym, ap, _∙_}
 use mathlib.Core.List.{List, [], _∷_, _++_, append-assoc}
 use mathlib.Core.Bool.{Bool, true, false, cond}
@@ -7,9 +7,9 @@ use native.Mathlib.Omega.{arith}
 use native.Mathlib.Numerals.{add-one}
 use borrow.Author.Tests.{le-leb, lt-leb}
 use lib.Dec.{leb}
-use lib.ListN.{length, take, drop, getD, set, replicate, length-take, length-drop, length-append, length-replicate, getD-replicate, take-append-drop, List·getD-append}
-use lib.Seq.{drop-cons, take-suc, set-at, length-take-le, getD-take, getD-drop, getD-append-add, take-take, take-all, take-at, drop-at, drop-append-add, drop-drop}
-use Rattle.nights.specs.Record.{Record, wordsOf, recordAt, recs}
+use lib.ListN.{length, take, drop, getD, set, replicate, length-take, length-drop, length-append, length-replicate, getD-replicate, take-append-drop}
+use lib.Seq.{drop-cons, take-suc, set-at, length-take-le, getD-take, getD-drop, getD-append-add, take-take, take-all, take-at, drop-append-add, drop-drop}
+use Rattle.nights.specs.Record.{Record, wordsOf, recs}
 use Rattle.queue.specs.Places.{front, back, dueCount, leftWords, goneWords}
 use Rattle.queue.proofs.Inserting.{length-recs, wordsOf-recs, wordsOf-take, wordsOf-drop, peel}
 

@@ -1,10 +1,8 @@
 -- `network::decide` meets its contract. Assumes nothing.
-use mathlib.Core.Path.{_≡_, sym, ap, _∙_}
+use mathlib.Core.Path.{sym, _∙_}
 use borrow.Author.Tests.{not-true, not-false}
 use denote.Floats.{passes}
-use Rattle.chance.specs.declared.Draw.{Draw}
-use Rattle.nights.specs.Draws.{isFaulted, afterLoss, decided}
-use Rattle.network.specs.Options.{plainOptions}
+use Rattle.nights.specs.Draws.{afterLoss, decided}
 use Rattle.network.proofs.OptionForms.{Held, good-chances}
 use Rattle.network.proofs.Deciding.{loss-drawn, replay-drawn}
 use borrow.Author.Needs.{needs}

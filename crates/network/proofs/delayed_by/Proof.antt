@@ -1,5 +1,5 @@
 -- `network::delayed_by` meets its contract. Assumes nothing.
-use mathlib.Core.Path.{_≡_, sym, ap, _∙_}
+use mathlib.Core.Path.{sym, ap, _∙_}
 use native.Mathlib.Omega.{arith}
 use Rattle.nights.specs.Net.{delayedBy}
 use Rattle.network.specs.declared.Decision.{Decision}

@@ -1,13 +1,7 @@
 -- `network::empty` meets its contract: the array of no records is zeros, and the options come back from their words. Assumes nothing.
-use mathlib.Core.Path.{_≡_, refl, sym, ap}
 use denote.Floats.{passes}
 use Rattle.nights.specs.Record.{wordsOf}
-use Rattle.nights.specs.Net.{fresh}
 use Rattle.queue.specs.Packed.{packed}
-use Rattle.network.specs.declared.NetworkOptions.{NetworkOptions}
-use Rattle.network.specs.declared.Network.{Network}
-use Rattle.network.specs.Options.{plainOptions, structOptions}
-use Rattle.network.specs.Forms.{structOf}
 use Rattle.network.proofs.OptionForms.{Held, options-back}
 use Rattle.network.proofs.empty.Statement.{statement}
 use Rattle.network.proofs.empty.Tie as tie

@@ -1,8 +1,7 @@
 -- `network::formed` meets its contract: the options, the counters and the records are the whole. Assumes nothing.
 use mathlib.Core.Path.{_≡_, sym, ap, _∙_}
 use mathlib.Core.Bool.{true}
-use borrow.Author.Tests.{not-true, not-false, leb-true}
-use native.Mathlib.Omega.{arith}
+use borrow.Author.Tests.{not-true, not-false}
 use Rattle.nights.specs.Net.{goodOptions}
 use Rattle.nights.proofs.Kept.{counts}
 use Rattle.network.specs.declared.Network.{Network}

@@ -1,5 +1,5 @@
 -- `network::kept` meets its contract. Assumes nothing.
-use mathlib.Core.Path.{_≡_, sym, ap, _∙_}
+use mathlib.Core.Path.{sym, ap, _∙_}
 use Rattle.chance.specs.declared.Draw.{Draw}
 use Rattle.nights.specs.Draws.{afterReplay}
 use Rattle.network.specs.Options.{plainOptions}

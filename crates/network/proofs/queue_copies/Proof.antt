@@ -1,16 +1,15 @@
 -- `network::queue_copies` meets its contract: one copy after the other, each under the next number. Assumes nothing.
-use Prim.Native.Nat.{ℕ, _+_, _≤_, _<_}
+use Prim.Native.Nat.{_+_}
 use mathlib.Core.Path.{_≡_, sym, ap, _∙_}
-use mathlib.Core.List.{List}
 use native.Mathlib.Omega.{arith}
 use lib.ListN.{length}
 use Rattle.nights.specs.Record.{Record}
-use Rattle.nights.specs.Net.{Letter, dues, copies}
+use Rattle.nights.specs.Net.{dues, copies}
 use Rattle.queue.specs.Places.{insertedWords, insertedAll}
 use Rattle.queue.proofs.Packing.{length-inserted}
 use Rattle.network.specs.declared.Decision.{Decision}
 use Rattle.network.specs.Answers.{decisionOf}
-use Rattle.network.specs.Forms.{plainLetter, copyAt}
+use Rattle.network.specs.Forms.{plainLetter}
 use borrow.Author.Needs.{needs}
 use Rattle.network.proofs.queue_copies.Statement.{statement}
 use Rattle.network.proofs.queue_copies.Tie as tie

@@ -1,6 +1,6 @@
 -- `network::records_good` meets its contract: the two walks tell what the plain form asks of its records. Assumes nothing.
 use borrow.Author.Tests.{not-true, not-false}
-use mathlib.Core.Path.{_≡_, sym, _∙_}
+use mathlib.Core.Path.{sym, _∙_}
 use Rattle.network.proofs.WholeForm.{order-fails, numbers-fail, records-told}
 use borrow.Author.Needs.{needs}
 use Rattle.network.proofs.records_good.Statement.{statement}

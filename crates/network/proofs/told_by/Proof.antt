@@ -2,7 +2,7 @@
 use mathlib.Core.Path.{sym, ap}
 use Rattle.nights.specs.Net.{lostBy, replayedBy}
 use Rattle.network.specs.declared.Decision.{Decision}
-use Rattle.network.specs.Answers.{Sending, decisionOf, sending, fateAnswer}
+use Rattle.network.specs.Answers.{decisionOf, sending, fateAnswer}
 use borrow.Author.Needs.{needs}
 use Rattle.network.proofs.told_by.Statement.{statement}
 use Rattle.network.proofs.told_by.Tie as tie

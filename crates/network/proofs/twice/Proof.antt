@@ -1,9 +1,6 @@
 -- `network::twice` meets its contract. Assumes nothing.
-use Prim.Native.Nat.{_≤_, _<_}
-use mathlib.Core.Path.{_≡_, sym, ap, _∙_}
+use mathlib.Core.Path.{sym, ap, _∙_}
 use native.Mathlib.Omega.{arith}
-use lib.ListN.{length}
-use Rattle.nights.specs.Draws.{extrasFor}
 use Rattle.network.specs.Options.{plainOptions}
 use Rattle.network.specs.Answers.{tickOf}
 use Rattle.network.proofs.Deciding.{two-short, copy-late, original-late, two-told, one-of-two}

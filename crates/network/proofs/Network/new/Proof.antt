@@ -1,5 +1,5 @@
 -- `network::Network::new` meets its contract. Assumes nothing.
-use mathlib.Core.Path.{_≡_, refl, sym, ap, _∙_}
+use mathlib.Core.Path.{sym, ap, _∙_}
 use Rattle.nights.specs.Net.{Options, fresh}
 use Rattle.nights.specs.Journal.{Answer}
 use Rattle.network.specs.declared.NetworkOptions.{NetworkOptions}

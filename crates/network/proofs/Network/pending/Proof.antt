@@ -1,5 +1,5 @@
 -- `network::Network::pending` meets its contract. Assumes nothing.
-use mathlib.Core.Path.{_≡_, sym, ap, _∙_}
+use mathlib.Core.Path.{sym, _∙_}
 use Rattle.network.specs.Answers.{counting}
 use Rattle.queue.proofs.Inserting.{length-recs}
 use Rattle.network.proofs.Calling.{form-ill, form-well}

@@ -1,17 +1,13 @@
 -- `network::Network::set_options` meets its contract. Assumes nothing.
-use mathlib.Core.Path.{_≡_, refl, sym, ap, _∙_}
-use mathlib.Core.Bool.{true}
+use mathlib.Core.Path.{_≡_, sym, ap, _∙_}
 use borrow.Author.Tests.{not-true, not-false}
 use denote.Floats.{passes}
 use lib.ListN.{length}
 use Rattle.nights.specs.Net.{choose, effect}
-use Rattle.nights.specs.Journal.{verdict, tests}
-use Rattle.network.specs.declared.NetworkOptions.{NetworkOptions}
-use Rattle.network.specs.declared.Network.{Network}
+use Rattle.nights.specs.Journal.{tests}
 use Rattle.network.specs.Options.{plainOptions}
 use Rattle.network.specs.Answers.{settledOf}
-use Rattle.network.specs.Forms.{isFormed}
-use Rattle.network.proofs.OptionForms.{Held, options-back}
+use Rattle.network.proofs.OptionForms.{Held}
 use Rattle.network.proofs.Maps.{chosen-network}
 use Rattle.network.proofs.Calling.{call-ill, call-well, stays, follows}
 use borrow.Author.Needs.{needs}

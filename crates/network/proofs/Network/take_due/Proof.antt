@@ -1,7 +1,5 @@
 -- `network::Network::take_due` meets its contract. Assumes nothing.
-use Prim.Native.Nat.{ℕ, _+_, _*_, _≤_}
-use mathlib.Core.Path.{_≡_, refl, sym, ap, _∙_}
-use mathlib.Core.Bool.{true}
+use mathlib.Core.Path.{_≡_, sym, _∙_}
 use native.Mathlib.Omega.{arith}
 use borrow.Author.Tests.{not-true, not-false}
 use denote.Floats.{passes}
@@ -11,7 +9,6 @@ use Rattle.nights.proofs.Kept.{Counts}
 use Rattle.queue.proofs.Taking.{due-in}
 use Rattle.network.specs.Answers.{counting}
 use Rattle.network.specs.Calls.{written}
-use Rattle.network.specs.Forms.{isFormed}
 use Rattle.network.proofs.OptionForms.{Held}
 use Rattle.network.proofs.Maps.{small, counts, taken-count, taken-out, taken-network}
 use Rattle.network.proofs.Calling.{call-ill, stays, follows, take-short, take-well}
