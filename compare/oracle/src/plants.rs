@@ -111,7 +111,8 @@ fn simulator_in(state: &State, full: bool) -> Simulator {
     simulator
 }
 
-fn simulator(n: usize, full: bool) -> Simulator {
+/// A new simulator of n plants, which no word is lent to yet.
+pub fn simulator(n: usize, full: bool) -> Simulator {
     let options = Options {
         replica_count: n,
         client_count: 1,

@@ -158,7 +158,7 @@ fn recovering(n: usize, draws: &mut Draws) -> Vec<bool> {
 
 /// A choice within the rules, and then one thing in it broken; or two, of which the earlier in the rules'
 /// order (40, 42, 45, 48, 46, 47) counts.
-fn refused_core(draws: &mut Draws) -> Case {
+pub fn refused_core(draws: &mut Draws) -> Case {
     let mut before = state(draws);
     before.counts = [0; 3];
     let good = answered_core(before.clone(), draws);

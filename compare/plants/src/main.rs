@@ -19,11 +19,12 @@ use std::{env, fs};
 const USAGE: &str = "usage: plants [--seed N] [--count N] [--sample FILE]";
 
 /// How many cases of each call the sample has.
-const SAMPLE: [(Maker, usize); 4] = [
+const SAMPLE: [(Maker, usize); 5] = [
     (inputs::new, 20),
     (inputs::apply, 150),
-    (inputs::verdict, 80),
-    (inputs::core, 110),
+    (inputs::verdict, 120),
+    (inputs::core, 100),
+    (inputs::refused_core, 20),
 ];
 
 const SAMPLE_SEED: u64 = 2_026;
