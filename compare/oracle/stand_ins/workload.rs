@@ -66,7 +66,9 @@ impl Access<'_> {
     pub fn send(&mut self, from: Origin, to: usize, message: Message<Op>) {
         self.0.network = Network::new(NetworkOptions::perfect());
         let now = self.0.ticks;
-        self.0.network.send(now, from, to, message, &mut self.0.prng);
+        self.0
+            .network
+            .send(now, from, to, message, &mut self.0.prng);
     }
 
     pub fn tick_network(&mut self) {

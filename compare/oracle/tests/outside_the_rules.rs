@@ -37,14 +37,20 @@ fn letters_in_words() {
 #[test]
 fn no_limits() {
     assert_eq!(parse_script(&" ".repeat(65_537)), Ok(vec![]));
-    assert_eq!(parse_script(&"5 heal 1\n".repeat(8_000)).map(|events| events.len()), Ok(8_000));
+    assert_eq!(
+        parse_script(&"5 heal 1\n".repeat(8_000)).map(|events| events.len()),
+        Ok(8_000)
+    );
 }
 
 /// The line of an unknown fault and of an id is not told; that of a tick is.
 #[test]
 fn lines_of_errors() {
     for text in ["\n5 foo", "\n5 crash", "\n5 crash x"] {
-        assert!(!parse_script(text).unwrap_err().contains("line 2"), "{text}");
+        assert!(
+            !parse_script(text).unwrap_err().contains("line 2"),
+            "{text}"
+        );
     }
     for text in ["\n5", "\n1,500 crash 1"] {
         assert!(parse_script(text).unwrap_err().contains("line 2"), "{text}");
@@ -60,7 +66,11 @@ fn many_plants() {
 /// Of a plant that there is not, crash, restart and reboot panic, reboot after its draw.
 #[test]
 fn faults_of_unknown_plants() {
-    for (fault, drawn) in [(Fault::Crash(3), 0), (Fault::Restart(3), 0), (Fault::Reboot(3), 1)] {
+    for (fault, drawn) in [
+        (Fault::Crash(3), 0),
+        (Fault::Restart(3), 0),
+        (Fault::Reboot(3), 1),
+    ] {
         let mut simulator = simulator(3, false);
         simulator.prng.lend(&[7]);
         let end = catch_unwind(AssertUnwindSafe(|| simulator.apply(fault)));

@@ -144,7 +144,11 @@ fn picks_read(n: usize, words: &[u64], full: bool) -> Vec<u64> {
         .into_iter()
         .map(|(low, high)| pick_read(low as u64, high as u64, &mut words))
         .collect();
-    assert_eq!(words.next(), None, "the Rust drew more words than its picks take");
+    assert_eq!(
+        words.next(),
+        None,
+        "the Rust drew more words than its picks take"
+    );
     picks
 }
 
@@ -152,7 +156,9 @@ fn pick_read<'a>(low: u64, high: u64, words: &mut impl Iterator<Item = &'a u64>)
     let size = high - low + 1;
     let zone = (size << size.leading_zeros()) - 1;
     loop {
-        let word = words.next().expect("the Rust drew fewer words than its picks take");
+        let word = words
+            .next()
+            .expect("the Rust drew fewer words than its picks take");
         let product = u128::from(*word) * u128::from(size);
         if product as u64 <= zone {
             return low + (product >> 64) as u64;

@@ -111,7 +111,11 @@ pub fn apply(draws: &mut Draws) -> Case {
     let id = id(draws, before.n);
     let fault = draws.below(6) as u64;
     let tick = any_number(draws);
-    let count = if draws.once_in(12) { 0 } else { draws.between(1, 2) };
+    let count = if draws.once_in(12) {
+        0
+    } else {
+        draws.between(1, 2)
+    };
     let lent = (0..count).map(|_| any_number(draws)).collect();
     expected::apply(before, fault, id, tick, lent)
 }
@@ -172,7 +176,8 @@ pub fn refused_core(draws: &mut Draws) -> Case {
     };
     let sort = draws.below(5);
     let later = draws.once_in(3).then(|| draws.below(5));
-    let breaks = |this: usize| sort == this || later.is_some_and(|later| later > sort && later == this);
+    let breaks =
+        |this: usize| sort == this || later.is_some_and(|later| later > sort && later == this);
     let n = before.n as usize;
     let number = [0, 45, 48, 46, 47][sort];
     // 47: the Rust's picks are in range, as it makes them itself.
@@ -182,7 +187,11 @@ pub fn refused_core(draws: &mut Draws) -> Case {
     // 46: the Rust's generator never ends.
     if breaks(3) {
         let used = used(n, full);
-        picks.truncate(if draws.once_in(2) { used - 1 } else { draws.below(used) });
+        picks.truncate(if draws.once_in(2) {
+            used - 1
+        } else {
+            draws.below(used)
+        });
     }
     // 48: the Rust asserts.
     if breaks(2) {

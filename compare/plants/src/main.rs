@@ -134,11 +134,17 @@ impl Run {
             println!("{number:>9}  {key}");
         }
         if self.tally.get("cases") != self.written {
-            println!("{} cases were written: the program read others", self.written);
+            println!(
+                "{} cases were written: the program read others",
+                self.written
+            );
             return ExitCode::FAILURE;
         }
         if !self.tally.missing().is_empty() {
-            println!("never met, so that the run says nothing about it: {:?}", self.tally.missing());
+            println!(
+                "never met, so that the run says nothing about it: {:?}",
+                self.tally.missing()
+            );
             return ExitCode::FAILURE;
         }
         println!("no difference");

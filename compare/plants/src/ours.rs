@@ -20,7 +20,8 @@ pub struct Program(PathBuf);
 impl Program {
     /// The program that PLANTS_CASES names, a relative path counting from the repository's root.
     pub fn given() -> Program {
-        let given = std::env::var_os("PLANTS_CASES").unwrap_or_else(|| "target/bin/plants_cases".into());
+        let given =
+            std::env::var_os("PLANTS_CASES").unwrap_or_else(|| "target/bin/plants_cases".into());
         let root = Path::new(env!("CARGO_MANIFEST_DIR")).join("../..");
         Program(root.join(given))
     }
@@ -31,13 +32,22 @@ impl Program {
             .stdin(Stdio::piped())
             .stdout(Stdio::piped())
             .spawn()
-            .unwrap_or_else(|error| panic!("{}: {error}; run `rt check plants_cases` first", self.0.display()));
+            .unwrap_or_else(|error| {
+                panic!(
+                    "{}: {error}; run `rt check plants_cases` first",
+                    self.0.display()
+                )
+            });
         // The program reads all before it prints, so that neither waits for the other.
         let mut stdin = child.stdin.take().expect("it was piped");
         stdin.write_all(list).expect("the program reads its input");
         drop(stdin);
         let output = child.wait_with_output().expect("the program ends");
-        assert!(output.status.success(), "the program failed: {}", output.status);
+        assert!(
+            output.status.success(),
+            "the program failed: {}",
+            output.status
+        );
         Tally::read(&String::from_utf8(output.stdout).expect("it prints text"))
     }
 }
