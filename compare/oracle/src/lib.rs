@@ -5,6 +5,7 @@
 
 include!(concat!(env!("OUT_DIR"), "/simulator.rs"));
 
+pub mod plants;
 pub mod script;
 
 // The simulator's files say `crate::state_machine`.

@@ -1,6 +1,8 @@
 //! What the Rust does where our rules refuse: the inputs of docs/DIFFERENCES.md, each run.
 
-use oracle::simulator::{parse_script, Fault};
+use oracle::plants::{apply, fresh, simulator, verdict};
+use oracle::simulator::{parse_script, Fault, Origin};
+use std::panic::{catch_unwind, AssertUnwindSafe};
 
 /// Foreign letters stand in comments and in words that are ignored.
 #[test]
@@ -35,16 +37,86 @@ fn letters_in_words() {
 #[test]
 fn no_limits() {
     assert_eq!(parse_script(&" ".repeat(65_537)), Ok(vec![]));
-    assert_eq!(parse_script(&"5 heal 1\n".repeat(8_000)).map(|events| events.len()), Ok(8_000));
+    assert_eq!(
+        parse_script(&"5 heal 1\n".repeat(8_000)).map(|events| events.len()),
+        Ok(8_000)
+    );
 }
 
 /// The line of an unknown fault and of an id is not told; that of a tick is.
 #[test]
 fn lines_of_errors() {
     for text in ["\n5 foo", "\n5 crash", "\n5 crash x"] {
-        assert!(!parse_script(text).unwrap_err().contains("line 2"), "{text}");
+        assert!(
+            !parse_script(text).unwrap_err().contains("line 2"),
+            "{text}"
+        );
     }
     for text in ["\n5", "\n1,500 crash 1"] {
         assert!(parse_script(text).unwrap_err().contains("line 2"), "{text}");
     }
+}
+
+/// There is no upper bound on plants.
+#[test]
+fn many_plants() {
+    assert_eq!(fresh(16).up, [true; 16]);
+}
+
+/// Of a plant that there is not, crash, restart and reboot panic, reboot after its draw.
+#[test]
+fn faults_of_unknown_plants() {
+    for (fault, drawn) in [
+        (Fault::Crash(3), 0),
+        (Fault::Restart(3), 0),
+        (Fault::Reboot(3), 1),
+    ] {
+        let mut simulator = simulator(3, false);
+        simulator.prng.lend(&[7]);
+        let end = catch_unwind(AssertUnwindSafe(|| simulator.apply(fault)));
+        assert!(end.is_err(), "{fault}");
+        assert_eq!(simulator.prng.used(), drawn, "{fault}");
+    }
+}
+
+/// A partition of it is kept, and a heal of it is ignored.
+#[test]
+fn partitions_of_unknown_plants() {
+    let mut simulator = simulator(3, false);
+    simulator.apply(Fault::Heal(3));
+    assert!(!simulator.is_partitioned(3));
+    simulator.apply(Fault::Partition(3));
+    assert!(simulator.is_partitioned(3));
+}
+
+/// A receiver that there is not panics, and a sender that there is not is taken for one that is not cut off.
+#[test]
+fn messages_of_unknown_plants() {
+    let state = fresh(3);
+    assert!(catch_unwind(|| verdict(&state, Origin::Replica(0), 3)).is_err());
+    assert_eq!(verdict(&state, Origin::Replica(3), 0), 0);
+}
+
+/// Counts pass 2^62.
+#[test]
+fn counts_without_limit() {
+    let mut state = fresh(3);
+    state.crashes = 1 << 62;
+    let (after, _) = apply(&state, 5, Fault::Crash(0), &[]);
+    assert_eq!(after.crashes, (1 << 62) + 1);
+}
+
+/// With fewer healthy plants than a quorum the choice of a core draws the size and the first shuffle, and
+/// then panics. A word of 0 is the lowest pick of any range.
+#[test]
+fn too_few_healthy() {
+    let mut simulator = simulator(3, false);
+    for id in [0, 1] {
+        simulator.prng.lend(&[7]);
+        simulator.apply(Fault::Reboot(id));
+    }
+    simulator.prng.lend(&[0; 9]);
+    let end = catch_unwind(AssertUnwindSafe(|| simulator.transition_to_liveness_mode()));
+    assert!(end.is_err());
+    assert_eq!(simulator.prng.used(), 3);
 }
