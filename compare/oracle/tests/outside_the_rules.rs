@@ -57,9 +57,10 @@ fn lines_of_errors() {
     }
 }
 
-/// There is no upper bound on plants.
+/// The options refuse fewer than 3 plants, and there is no upper bound.
 #[test]
-fn many_plants() {
+fn numbers_of_plants() {
+    assert!(catch_unwind(|| simulator(2, false)).is_err());
     assert_eq!(fresh(16).up, [true; 16]);
 }
 

@@ -197,7 +197,7 @@ fn write_sample(file: &str) -> ExitCode {
 fn arguments() -> Option<Arguments> {
     let mut arguments = Arguments {
         seed: 1,
-        count: 230_000,
+        count: 240_000,
         sample: None,
     };
     let mut words = env::args().skip(1);
