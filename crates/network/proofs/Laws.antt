@@ -9,7 +9,7 @@ use native.Mathlib.Omega.{arith}
 use borrow.Author.Tests.{le-leb, lt-leb}
 use lib.Dec.{leb, eqb}
 use Rattle.nights.specs.Record.{Record}
-use Rattle.nights.specs.Net.{Options, Network as Plain, dues, Letter, copies, Plain as Call, send, take, choose, keep, isDue, isLater, insertAll, setOptions, effect, wellFormed}
+use Rattle.nights.specs.Net.{bit, Options, Network as Plain, dues, Letter, copies, Plain as Call, send, take, choose, keep, isDue, isLater, insertAll, setOptions, effect, wellFormed}
 use Rattle.nights.specs.Draws.{fateOf}
 use Rattle.nights.specs.Journal.{Answer, done, refused}
 use Rattle.nights.proofs.Order.{All, Ordered, all-map, keep-all, ordered-keep, unseen-all}
@@ -21,7 +21,11 @@ use Rattle.network.specs.declared.Refusal.{Refusal}
 use Rattle.network.specs.declared.Refusal.the-variants.{BadLoss, BadReplay, MinOverMean, IllFormed, BadKindOrSort, SentLimit, ShortDraws, ShortExtras, LateTick, Full, ShortOutput}
 use Rattle.network.specs.declared.Settled.{Settled}
 use Rattle.network.specs.declared.Settled.the-variants.{Done, Refused}
-use Rattle.network.specs.Answers.{number, settledOf}
+use Rattle.network.specs.declared.Counted.{Counted}
+use Rattle.network.specs.declared.Counted.the-variants.{Records, Refused as Uncounted}
+use Rattle.network.specs.declared.SendAnswer.{SendAnswer}
+use Rattle.network.specs.declared.SendAnswer.the-variants.{Accepted, Refused as Unsent}
+use Rattle.network.specs.Answers.{number, settledOf, Count, countedOf, Sending, sentOf}
 use Rattle.network.specs.Forms.{plainOf, isFormed}
 use Rattle.network.specs.Calls.{callAnswer, callNetwork}
 use Rattle.network.proofs.Maps.{plain-formed, in-order, counts, plain-of-struct, struct-formed}
@@ -137,3 +141,37 @@ settled-once Done Done e = refl
 settled-once Done (Refused r) e = let z : _≡_ {A = ℕ} 0 1 = cc in absurd (omega arith)
 settled-once (Refused r) Done e = let z : _≡_ {A = ℕ} 0 1 = cc in absurd (omega arith)
 settled-once (Refused r) (Refused t) e = let z : number r ≡ number t = cc in ap Refused (numbered-once r t z)
+
+pub counted-once : (a b : Counted) → countedOf a ≡ countedOf b → a ≡ b
+counted-once (Records n) (Records k) e = ap Records (ap (λ (x : Count). x .records) e)
+counted-once (Records n) (Uncounted r) e =
+    let p : done ≡ refused (number r) = ap (λ (x : Count). x .answer) e in let z : _≡_ {A = ℕ} 0 1 = cc in absurd (omega arith)
+counted-once (Uncounted r) (Records n) e =
+    let p : refused (number r) ≡ done = ap (λ (x : Count). x .answer) e in let z : _≡_ {A = ℕ} 0 1 = cc in absurd (omega arith)
+counted-once (Uncounted r) (Uncounted t) e =
+    let p : refused (number r) ≡ refused (number t) = ap (λ (x : Count). x .answer) e in
+    let z : number r ≡ number t = cc in
+    ap Uncounted (numbered-once r t z)
+
+bit-once : (a b : Bool) → bit a ≡ bit b → a ≡ b
+bit-once true true e = refl
+bit-once true false e = absurd (omega arith)
+bit-once false true e = absurd (omega arith)
+bit-once false false e = refl
+
+pub sent-once : (a b : SendAnswer) → sentOf a ≡ sentOf b → a ≡ b
+sent-once (Accepted l r d x) (Accepted m t f y) e =
+    rw (
+      bit-once l m (ap (λ (z : Sending). z .lost) e),
+      bit-once r t (ap (λ (z : Sending). z .replayed) e),
+      ap (λ (z : Sending). z .draws) e,
+      ap (λ (z : Sending). z .extras) e,
+    )
+sent-once (Accepted l r d x) (Unsent t) e =
+    let p : done ≡ refused (number t) = ap (λ (z : Sending). z .answer) e in let z : _≡_ {A = ℕ} 0 1 = cc in absurd (omega arith)
+sent-once (Unsent r) (Accepted m t f y) e =
+    let p : refused (number r) ≡ done = ap (λ (z : Sending). z .answer) e in let z : _≡_ {A = ℕ} 0 1 = cc in absurd (omega arith)
+sent-once (Unsent r) (Unsent t) e =
+    let p : refused (number r) ≡ refused (number t) = ap (λ (z : Sending). z .answer) e in
+    let z : number r ≡ number t = cc in
+    ap Unsent (numbered-once r t z)
