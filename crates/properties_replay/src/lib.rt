@@ -480,7 +480,7 @@ pub fn replay(
             return;
         }
         let line = line_at(list, at);
-        lent = replay_line(line, lent, plants, logs, values, core, tracker, counts);
         at += LINE;
+        lent = replay_line(line, lent, plants, logs, values, core, tracker, counts);
     }
 }

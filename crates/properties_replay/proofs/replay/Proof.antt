@@ -56,11 +56,11 @@ returns c = tt
 line-at-requires : tie.Need-line-at-requires Inv-loop μ-loop
 line-at-requires c κs = omega arith
 
-replay-line-requires : tie.Need-replay-line-requires Inv-loop μ-loop
-replay-line-requires c κs = tt
-
 add-at : tie.Need-add-at Inv-loop μ-loop
 add-at c = omega arith
+
+replay-line-requires : tie.Need-replay-line-requires Inv-loop μ-loop
+replay-line-requires c κs = tt
 
 loop-less : tie.Need-loop-less Inv-loop μ-loop
 loop-less c = omega arith
@@ -107,8 +107,8 @@ replay-spec =
     same-length-6
     returns
     line-at-requires
-    replay-line-requires
     add-at
+    replay-line-requires
     loop-less
     loop-again
     same-length-7
