@@ -153,10 +153,7 @@ impl Judge {
                 let mut verdict = verdict(property.name(), &error.to_string());
                 // The Rust does not tell which entry differs.
                 if verdict.test == 2 {
-                    let logs = (
-                        &plants[core[0]].log,
-                        &plants[verdict.plant as usize].log,
-                    );
+                    let logs = (&plants[core[0]].log, &plants[verdict.plant as usize].log);
                     let unequal = logs.0.iter().zip(logs.1).position(|(a, b)| a != b);
                     verdict.index = unequal.expect("the Rust says that they differ") as u64;
                 }

@@ -52,7 +52,9 @@ fn compare(draws: &mut Draws, seed: u64, count: u64) -> ExitCode {
     while snapshots < count {
         let list = listed(draws, runs::limit(), false);
         tally.add(&program::replayed(&list));
-        snapshots += lines(&list).filter(|line| line[0] == 6 || line[0] == 7).count() as u64;
+        snapshots += lines(&list)
+            .filter(|line| line[0] == 6 || line[0] == 7)
+            .count() as u64;
         if tally.met("differing") > 0 {
             print!("{}", first_difference(&list));
             return ExitCode::FAILURE;
@@ -76,7 +78,10 @@ fn listed(draws: &mut Draws, limit: usize, small: bool) -> Vec<u8> {
     while list.bytes.len() < limit {
         runs::run(draws, &mut list, limit, small);
     }
-    assert!(list.bytes.len() <= LIST_ROOM, "our program reads the list whole");
+    assert!(
+        list.bytes.len() <= LIST_ROOM,
+        "our program reads the list whole"
+    );
     list.bytes
 }
 

@@ -173,7 +173,11 @@ impl Run<'_> {
             }
             if self.draws.below(4) != 0 {
                 let length = self.draws.between(plant.commit as usize, self.truth.len());
-                let length = if self.draws.once_in(3) { length } else { self.truth.len() };
+                let length = if self.draws.once_in(3) {
+                    length
+                } else {
+                    self.truth.len()
+                };
                 plant.log = self.truth[..length].to_vec();
             }
             if self.draws.once_in(10) && plant.log.len() < ENTRIES {
@@ -213,7 +217,7 @@ impl Run<'_> {
     fn damage(&mut self, plants: &mut [Plant]) {
         let id = self.draws.below(self.n);
         let last = self.judge.last_commits(self.n);
-        match self.draws.below(14) {
+        match self.draws.below(19) {
             0 => plants[id].op = self.near(plants[id].op),
             1 => plants[id].commit = plants[id].op + 1 + self.draws.below(2) as u64,
             2 => plants[id].commit = self.draws.word(),
@@ -225,9 +229,9 @@ impl Run<'_> {
                 plants[id] = Plant::new();
             }
             5 | 6 => self.other_word(&mut plants[id], last[id]),
-            7 | 8 => self.repeated_id(plants, &last),
+            7 | 8 | 14 => self.repeated_id(plants, &last),
             9 => self.other_truth(plants, &last),
-            10 => {
+            10 | 15 | 16 => {
                 // Logs cut back to what is committed, so that copies are missing.
                 let keep = self.draws.below(self.n);
                 for (other, plant) in plants.iter_mut().enumerate() {
@@ -240,7 +244,7 @@ impl Run<'_> {
                     }
                 }
             }
-            11 => plants[id].commit = plants[id].log.len() as u64,
+            11 | 17 => plants[id].commit = plants[id].log.len() as u64,
             12 => {
                 for plant in plants.iter_mut() {
                     plant.recovering = self.draws.below(2) as u64;
@@ -430,7 +434,9 @@ impl Run<'_> {
                     let canonical = self.list.tracker[1];
                     match self.draws.below(3) {
                         0 => self.list.tracker_word(0, n as u64 + 1),
-                        _ => self.list.tracker_word(2 + place, canonical.saturating_add(1)),
+                        _ => self
+                            .list
+                            .tracker_word(2 + place, canonical.saturating_add(1)),
                     }
                 }
             }
@@ -469,7 +475,8 @@ impl Run<'_> {
             || lent.logs != 512 * n
             || (0..n).any(|r| self.list.plants[4 * r] > 1 || self.list.plants[4 * r + 3] > 128);
         let rising = core.windows(2).all(|pair| pair[0] < pair[1]);
-        let end = lent.values != n || core.is_empty() || !rising || core.iter().any(|&id| id >= lent.n);
+        let end =
+            lent.values != n || core.is_empty() || !rising || core.iter().any(|&id| id >= lent.n);
         let asked = match call {
             Call::Tick => snapshot,
             Call::End => snapshot || end,
