@@ -453,6 +453,9 @@ impl Run<'_> {
     }
 
     fn bad_core(&mut self, mut core: Vec<u64>) -> Vec<u64> {
+        if core.is_empty() || core.len() == SMALL_ROOM {
+            return core;
+        }
         match self.draws.below(4) {
             0 => core.clear(),
             1 => core.insert(0, core[0]),
