@@ -220,3 +220,30 @@ fn number_after(message: &str, word: &str) -> u64 {
         .collect();
     digits.parse().expect("a number follows")
 }
+
+#[cfg(test)]
+mod tests {
+    use super::*;
+
+    fn committed(body: u64) -> Plant {
+        let log = vec![[1, 1, 7, body]];
+        Plant {
+            commit: 1,
+            op: 1,
+            log,
+            ..Plant::new()
+        }
+    }
+
+    /// docs/DIFFERENCES.md: the Rust keeps what it had remembered when a property breaks.
+    #[test]
+    fn a_break_leaves_the_rust_part_of_the_way() {
+        let mut judge = Judge::new();
+        let verdict = judge.ticked(&[committed(0), committed(1), committed(0)]);
+        assert_eq!((verdict.code, verdict.plant, verdict.index), (3, 1, 0));
+        assert_eq!(judge.canonical(), [[1, 1, 7, 0]]);
+        assert_eq!(judge.agreement.verified(), [1, 0, 0]);
+        judge.rebuild();
+        assert!(judge.canonical().is_empty());
+    }
+}

@@ -407,8 +407,14 @@ impl Run<'_> {
         let kept = self.list.tracker.clone();
         self.list.snapshot(&self.plants);
         self.list.values(&self.plants);
+        let faults: &[usize] = match call {
+            Call::Tick => &[0, 2, 3, 6, 7, 8, 9],
+            Call::End => &[0, 2, 3, 4, 5, 5, 5, 6, 7, 8, 9],
+            Call::Fresh => &[0, 6],
+            Call::Reboot => &[0, 1, 1, 6, 8, 9],
+        };
         for _ in 0..self.draws.between(1, 2) {
-            match self.draws.below(10) {
+            match faults[self.draws.below(faults.len())] {
                 0 => lent.n = [0, 2, 16, u64::MAX][self.draws.below(4)],
                 1 => id = [n as u64, n as u64 + 1, u64::MAX][self.draws.below(3)],
                 2 => lent.plants = other_length(self.draws, lent.plants, PLANT_ROOM),
