@@ -52,15 +52,13 @@ fn compare(draws: &mut Draws, seed: u64, count: u64) -> ExitCode {
     while snapshots < count {
         let list = listed(draws, runs::limit(), false);
         tally.add(&program::replayed(&list));
-        snapshots += lines(&list)
-            .filter(|line| line[0] == 6 || line[0] == 7)
-            .count() as u64;
+        snapshots += lines(&list).filter(judged).count() as u64;
         if tally.met("differing") > 0 {
             print!("{}", first_difference(&list));
             return ExitCode::FAILURE;
         }
     }
-    println!("seed {seed}: {snapshots} snapshots compared");
+    println!("seed {seed}: {snapshots} snapshots judged by the Rust");
     for key in &tally.keys {
         println!("{:>9}  {key}", tally.met(key));
     }
@@ -70,6 +68,11 @@ fn compare(draws: &mut Draws, seed: u64, count: u64) -> ExitCode {
     }
     println!("no difference");
     ExitCode::SUCCESS
+}
+
+/// Whether a line is a snapshot that the Rust judged, and none that our rules refuse.
+fn judged(line: &[u64; 7]) -> bool {
+    (line[0] == 6 || line[0] == 7) && line[2] < 40
 }
 
 /// A list of whole runs, up to some bytes.

@@ -506,7 +506,7 @@ impl Run<'_> {
 fn other_length(draws: &mut Draws, length: usize, room: usize) -> usize {
     match draws.below(4) {
         0 => 0,
-        1 => length - 1,
+        1 => length.saturating_sub(1),
         2 => (length + 1).min(room),
         _ => draws.below(room),
     }
