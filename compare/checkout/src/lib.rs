@@ -43,10 +43,26 @@ pub fn lay_module(name: &str, unchanged: &[&str], stand_ins: &[&str]) {
     fs::write(out.join(format!("{name}.rs")), declaration).expect("the declaration can be written");
 }
 
+/// Makes `OUT_DIR/NAME.rs`, which declares the public module `name`: a file of the checkout with an `addition`
+/// of the calling crate at its end.
+pub fn lay_extended(name: &str, unchanged: &str, addition: &str) {
+    let out = PathBuf::from(env::var_os("OUT_DIR").expect("a build script has OUT_DIR"));
+    let mut bytes = read(&folder().join(unchanged));
+    bytes.extend(read(Path::new(addition)));
+    let laid = out.join(format!("{name}_module.rs"));
+    fs::write(&laid, bytes).expect("a file of the module can be written");
+    let declaration = format!("#[path = {laid:?}]\npub mod {name};\n");
+    fs::write(out.join(format!("{name}.rs")), declaration).expect("the declaration can be written");
+}
+
 fn lay(file: &Path, folder: &Path) {
+    fs::write(folder.join(file_name(file)), read(file))
+        .expect("a file of the module can be written");
+}
+
+fn read(file: &Path) -> Vec<u8> {
     println!("cargo:rerun-if-changed={}", file.display());
-    let bytes = fs::read(file).unwrap_or_else(|error| panic!("{}: {error}", file.display()));
-    fs::write(folder.join(file_name(file)), bytes).expect("a file of the module can be written");
+    fs::read(file).unwrap_or_else(|error| panic!("{}: {error}", file.display()))
 }
 
 fn file_name(file: &Path) -> &Path {

@@ -1,0 +1,138 @@
+//! Compares the proved properties with the Rust's.
+//!
+//! `properties [--seed N] [--count N] [--sample FILE]`: the seed of the random runs, and how many snapshots are
+//! compared at least; or the fixed sample is written to a file, and nothing is compared. Ends with status 0 if
+//! there is no difference and every outcome was met.
+
+mod cluster;
+mod draws;
+mod judge;
+mod list;
+mod program;
+mod runs;
+#[path = "../../oracle/stand_ins/state_machine.rs"]
+mod state_machine;
+
+include!(concat!(env!("OUT_DIR"), "/properties.rs"));
+include!(concat!(env!("OUT_DIR"), "/readable.rs"));
+
+use draws::Draws;
+use list::{List, LINE, LIST_ROOM};
+use program::Tally;
+use std::process::ExitCode;
+
+const USAGE: &str = "usage: properties [--seed N] [--count N] [--sample FILE]";
+
+/// Bytes of the fixed sample, at which no further run begins.
+const SAMPLE: usize = 180_000;
+
+struct Arguments {
+    seed: u64,
+    count: u64,
+    sample: Option<String>,
+}
+
+fn main() -> ExitCode {
+    let Some(arguments) = arguments() else {
+        eprintln!("{USAGE}");
+        return ExitCode::from(2);
+    };
+    let mut draws = Draws::new(arguments.seed);
+    if let Some(file) = arguments.sample {
+        let list = listed(&mut draws, SAMPLE, true);
+        std::fs::write(&file, list).expect("the sample can be written");
+        return ExitCode::SUCCESS;
+    }
+    compare(&mut draws, arguments.seed, arguments.count)
+}
+
+fn compare(draws: &mut Draws, seed: u64, count: u64) -> ExitCode {
+    let mut tally = Tally::default();
+    let mut snapshots = 0;
+    while snapshots < count {
+        let list = listed(draws, runs::limit(), false);
+        tally.add(&program::replayed(&list));
+        snapshots += lines(&list).filter(judged).count() as u64;
+        if tally.met("differing") > 0 {
+            print!("{}", first_difference(&list));
+            return ExitCode::FAILURE;
+        }
+    }
+    println!("seed {seed}: {snapshots} snapshots judged by the Rust");
+    for key in &tally.keys {
+        println!("{:>9}  {key}", tally.met(key));
+    }
+    if !tally.unmet().is_empty() {
+        println!("never met: {}", tally.unmet().join(", "));
+        return ExitCode::FAILURE;
+    }
+    println!("no difference");
+    ExitCode::SUCCESS
+}
+
+/// Whether a line is a snapshot that the Rust judged, and none that our rules refuse.
+fn judged(line: &[u64; 7]) -> bool {
+    (line[0] == 6 || line[0] == 7) && line[2] < 40
+}
+
+/// A list of whole runs, up to some bytes.
+fn listed(draws: &mut Draws, limit: usize, small: bool) -> Vec<u8> {
+    let mut list = List::new();
+    while list.bytes.len() < limit {
+        runs::run(draws, &mut list, limit, small);
+    }
+    assert!(
+        list.bytes.len() <= LIST_ROOM,
+        "our program reads the list whole"
+    );
+    list.bytes
+}
+
+fn lines(list: &[u8]) -> impl Iterator<Item = [u64; 7]> + '_ {
+    list.chunks_exact(LINE).map(|line| {
+        let mut words = [0; 7];
+        for (word, bytes) in words.iter_mut().zip(line.chunks_exact(8)) {
+            *word = u64::from_le_bytes(bytes.try_into().expect("eight bytes"));
+        }
+        words
+    })
+}
+
+/// The first line that differs, found by halving, and the lines since the call before it.
+fn first_difference(list: &[u8]) -> String {
+    let (mut agreeing, mut differing) = (0, list.len() / LINE);
+    while agreeing + 1 < differing {
+        let middle = (agreeing + differing) / 2;
+        if program::differing(&list[..middle * LINE]) > 0 {
+            differing = middle;
+        } else {
+            agreeing = middle;
+        }
+    }
+    let words: Vec<[u64; 7]> = lines(&list[..differing * LINE]).collect();
+    let before = words[..agreeing].iter().rposition(|line| line[0] > 5);
+    let mut told = format!("a difference in line {differing}; the lines since the call before:\n");
+    for line in &words[before.map_or(0, |place| place + 1)..] {
+        told += &format!("  {line:?}\n");
+    }
+    told
+}
+
+fn arguments() -> Option<Arguments> {
+    let mut arguments = Arguments {
+        seed: 1,
+        count: 200_000,
+        sample: None,
+    };
+    let mut given = std::env::args().skip(1);
+    while let Some(option) = given.next() {
+        let value = given.next()?;
+        match option.as_str() {
+            "--seed" => arguments.seed = value.parse().ok()?,
+            "--count" => arguments.count = value.parse().ok()?,
+            "--sample" => arguments.sample = Some(value),
+            _ => return None,
+        }
+    }
+    Some(arguments)
+}
