@@ -49,16 +49,20 @@ fn main() -> ExitCode {
 fn compare(draws: &mut Draws, seed: u64, count: u64) -> ExitCode {
     let mut tally = Tally::default();
     let mut snapshots = 0;
+    let (mut longest, mut most) = (0, 0);
     while snapshots < count {
         let list = listed(draws, runs::limit(), false);
         tally.add(&program::replayed(&list));
         snapshots += lines(&list).filter(judged).count() as u64;
+        longest = longest.max(largest(&list, 0, 5, 128));
+        most = most.max(largest(&list, 5, 1, 15));
         if tally.met("differing") > 0 {
             print!("{}", first_difference(&list));
             return ExitCode::FAILURE;
         }
     }
     println!("seed {seed}: {snapshots} snapshots judged by the Rust");
+    println!("of up to {most} plants, with logs of up to {longest} entries");
     for key in &tally.keys {
         println!("{:>9}  {key}", tally.met(key));
     }
@@ -68,6 +72,16 @@ fn compare(draws: &mut Draws, seed: u64, count: u64) -> ExitCode {
     }
     println!("no difference");
     ExitCode::SUCCESS
+}
+
+/// The largest word at a place in lines of a kind, of those that the rules take.
+fn largest(list: &[u8], kind: u64, place: usize, limit: u64) -> u64 {
+    lines(list)
+        .filter(|line| line[0] == kind)
+        .map(|line| line[place])
+        .filter(|&word| word <= limit)
+        .max()
+        .unwrap_or(0)
 }
 
 /// Whether a line is a snapshot that the Rust judged, and none that our rules refuse.
