@@ -8,4 +8,9 @@ fn main() {
         ],
         &["stand_ins/state_machine.rs", "stand_ins/workload.rs"],
     );
+    checkout::lay_with_readers(
+        "network_read",
+        "simulator/network.rs",
+        "stand_ins/network_reader.rs",
+    );
 }

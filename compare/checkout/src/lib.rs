@@ -43,6 +43,22 @@ pub fn lay_module(name: &str, unchanged: &[&str], stand_ins: &[&str]) {
     fs::write(out.join(format!("{name}.rs")), declaration).expect("the declaration can be written");
 }
 
+/// Makes `OUT_DIR/NAME.rs`, which declares the public module `name`: one unchanged file of the checkout with
+/// the text of the calling crate's file `behind` after its last line.
+pub fn lay_with_readers(name: &str, unchanged: &str, behind: &str) {
+    let out = PathBuf::from(env::var_os("OUT_DIR").expect("a build script has OUT_DIR"));
+    let laid = out.join(name);
+    fs::create_dir_all(&laid).expect("the folder of the module can be made");
+    lay(&folder().join(unchanged), &laid);
+    println!("cargo:rerun-if-changed={behind}");
+    let root = laid.join(file_name(Path::new(unchanged)));
+    let mut text = fs::read(&root).expect("the file was laid");
+    text.extend(fs::read(behind).expect("the readers are there"));
+    fs::write(&root, text).expect("the file can be written");
+    let declaration = format!("#[path = {root:?}]\npub mod {name};\n");
+    fs::write(out.join(format!("{name}.rs")), declaration).expect("the declaration can be written");
+}
+
 fn lay(file: &Path, folder: &Path) {
     println!("cargo:rerun-if-changed={}", file.display());
     let bytes = fs::read(file).unwrap_or_else(|error| panic!("{}: {error}", file.display()));
