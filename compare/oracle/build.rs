@@ -8,4 +8,9 @@ fn main() {
         ],
         &["stand_ins/state_machine.rs", "stand_ins/workload.rs"],
     );
+    checkout::lay_extended(
+        "network_read",
+        "simulator/network.rs",
+        "stand_ins/network_reader.rs",
+    );
 }

@@ -4,7 +4,9 @@
 //! other module runs one part of it and tells the outcome in plain numbers.
 
 include!(concat!(env!("OUT_DIR"), "/simulator.rs"));
+include!(concat!(env!("OUT_DIR"), "/network_read.rs"));
 
+pub mod network;
 pub mod plants;
 pub mod script;
 

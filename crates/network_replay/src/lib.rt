@@ -1,0 +1,668 @@
+// Replays a list of calls on `network`, each with the answer, the lent output and the network that are
+// expected after it. The network is our own, carried on from call to call. What was met is counted, so that
+// a list that misses an outcome is seen.
+//
+// A list is a row of words of eight bytes, the lowest first. A call is
+//   0     the call: 1 new, 2 set options, 3 send, 4 take, 5 pending, 6 in flight, 7 put
+//   1     the expected refusal's number, or 0
+//   2, 3  the expected answer: for a send 1 if lost plus 2 if replayed, and 16 times the draws used plus the
+//         extras used; for take, pending and in flight the number of records; else zeros
+//   4     the hash expected of the output, 1,040 words filled with a pattern before they are lent; else 0
+//   5     the hash expected of the network: its options, pending, seq, sent, delivered, lost, replayed,
+//         delayed and all its words
+// and then for each call
+//   new, set options  6 loss bits, 7 replay bits, 8 min, 9 mean, 10 flag
+//   send              6 now, 7 sort, 8 origin, 9 to, 10 kind, 11 handle, 12 how many draws, 13..17 the draws,
+//                     17 how many extras, 18..22 the extras
+//   take              6 now, 7 how many words of the output are lent
+//   in flight         6 how many words of the output are lent
+//   put               6 place, 7 value: no call of ours, but a word of the network that is set
+// Bits that are no good probability stand for 2, in a network too.
+use network::Counted;
+use network::Network;
+use network::NetworkOptions;
+use network::Refusal;
+use network::SendAnswer;
+use network::Settled;
+ghost use mathlib.Core.Path.{_≡_};
+ghost use Prim.Native.Nat.{_+_, _*_, _≤_, _<_};
+ghost use lib.ListN.{length};
+
+// The words of the longest call.
+const LONGEST: usize = 22;
+
+// The words of an output.
+const ROOM: usize = 1040;
+
+// What an output is filled with.
+const PATTERN: u64 = 0xa5a5_5a5a_c3c3_3c3c;
+
+// The bits of 2, and where a hash begins.
+const NO_PROBABILITY: u64 = 0x4000_0000_0000_0000;
+
+const FIRST_HASH: u64 = 0xcbf2_9ce4_8422_2325;
+
+// Where the tally has each outcome that is no refusal; the refusals 20 to 30 stand from 0 on.
+const MADE: usize = 11;
+
+const OPTIONS_SET: usize = 12;
+
+const LOST: usize = 13;
+
+const REPLAYED: usize = 14;
+
+const QUEUED_ONCE: usize = 15;
+
+const NOT_FAULTED: usize = 16;
+
+const DELAYED: usize = 17;
+
+const LEFT_FULL: usize = 18;
+
+const NONE_TAKEN: usize = 19;
+
+const SOME_TAKEN: usize = 20;
+
+const ALL_TAKEN: usize = 21;
+
+const PENDING_TOLD: usize = 22;
+
+const LISTED: usize = 23;
+
+const WORD_PUT: usize = 24;
+
+const OTHER: usize = 25;
+
+// How often each outcome was met.
+pub struct Tally {
+    pub calls: u64,
+    // Calls answered otherwise, and a list that ends within a call.
+    pub differing: u64,
+    pub met: [u64; 26],
+}
+
+// What a call gave.
+pub struct Done {
+    pub network: Network,
+    pub refusal: u64,
+    pub first: u64,
+    pub second: u64,
+    pub output: u64,
+}
+
+// One more. No list is long enough to wrap.
+fn one_more(n: u64) -> u64 {
+    std::num::wrapping_add_u64(n, 1)
+}
+
+// ---- Hashes
+
+fn add(a: u64, b: u64) -> u64 {
+    std::num::wrapping_add_u64(a, b)
+}
+
+// FNV-1a with a word for a byte: the prime is 2^40 + 2^8 + 2^7 + 2^5 + 2^4 + 2 + 1.
+fn stir(hash: u64, word: u64) -> u64 {
+    let h = hash ^ word;
+    let high = add(h << 40, h << 8);
+    let middle = add(h << 7, h << 5);
+    let low = add(h << 4, h << 1);
+    add(add(high, middle), add(low, h))
+}
+
+fn hash_words(words: &[u64], hash: u64) -> u64 {
+    let mut h = hash;
+    let mut i: usize = 0;
+    while i < words.len() {
+        h = stir(h, words[i]);
+        i += 1;
+    }
+    h
+}
+
+fn hash_output(output: [u64; 1040]) -> u64 {
+    let words = output;
+    hash_words(&words[..], FIRST_HASH)
+}
+
+fn probability(bits: u64) -> f64 {
+    if chance::good_word(bits) {
+        return chance::of_word(bits);
+    }
+    2.0
+}
+
+fn bits_of(p: f64) -> u64 {
+    if chance::good(p) {
+        return chance::word_of(p);
+    }
+    NO_PROBABILITY
+}
+
+fn flag_word(flag: bool) -> u64 {
+    if flag {
+        return 1;
+    }
+    0
+}
+
+fn hash_options(options: NetworkOptions) -> u64 {
+    let loss = stir(FIRST_HASH, bits_of(options.packet_loss_probability));
+    let replay = stir(loss, bits_of(options.packet_replay_probability));
+    let min = stir(replay, options.one_way_delay_min);
+    let mean = stir(min, options.one_way_delay_mean);
+    stir(mean, flag_word(options.fault_client_messages))
+}
+
+fn hash_network(network: Network) -> u64 {
+    let options = hash_options(network.options);
+    let pending = stir(options, network.pending as u64);
+    let seq = stir(pending, network.seq);
+    let sent = stir(seq, network.sent);
+    let delivered = stir(sent, network.delivered);
+    let lost = stir(delivered, network.lost);
+    let replayed = stir(lost, network.replayed);
+    let delayed = stir(replayed, network.delayed);
+    let words = network.words;
+    hash_words(&words[..], delayed)
+}
+
+// ---- The calls
+
+fn number_of(refusal: Refusal) -> u64 {
+    match refusal {
+        Refusal::BadLoss => 20,
+        Refusal::BadReplay => 21,
+        Refusal::MinOverMean => 22,
+        Refusal::IllFormed => 23,
+        Refusal::BadKindOrSort => 24,
+        Refusal::SentLimit => 25,
+        Refusal::ShortDraws => 26,
+        Refusal::ShortExtras => 27,
+        Refusal::LateTick => 28,
+        Refusal::Full => 29,
+        Refusal::ShortOutput => 30,
+    }
+}
+
+fn options_of(case: [u64; 22]) -> NetworkOptions {
+    NetworkOptions {
+        packet_loss_probability: probability(case[6]),
+        packet_replay_probability: probability(case[7]),
+        one_way_delay_min: case[8],
+        one_way_delay_mean: case[9],
+        fault_client_messages: case[10] == 1,
+    }
+}
+
+fn settled(network: Network, answer: Settled) -> Done {
+    let refusal = match answer {
+        Settled::Done => 0,
+        Settled::Refused(refusal) => number_of(refusal),
+    };
+    Done {
+        network,
+        refusal,
+        first: 0,
+        second: 0,
+        output: 0,
+    }
+}
+
+fn counted(network: Network, answer: Counted, output: u64) -> Done {
+    match answer {
+        Counted::Records(n) => Done {
+            network,
+            refusal: 0,
+            first: n as u64,
+            second: 0,
+            output,
+        },
+        Counted::Refused(refusal) => Done {
+            network,
+            refusal: number_of(refusal),
+            first: 0,
+            second: 0,
+            output,
+        },
+    }
+}
+
+fn fate_word(lost: bool, replayed: bool) -> u64 {
+    add(
+        flag_word(lost),
+        add(flag_word(replayed), flag_word(replayed)),
+    )
+}
+
+fn used_word(draws: usize, extras: usize) -> u64 {
+    add((draws as u64) << 4, extras as u64)
+}
+
+fn sent(network: Network, answer: SendAnswer) -> Done {
+    match answer {
+        SendAnswer::Accepted {
+            lost,
+            replayed,
+            draws,
+            extras,
+        } => Done {
+            network,
+            refusal: 0,
+            first: fate_word(lost, replayed),
+            second: used_word(draws, extras),
+            output: 0,
+        },
+        SendAnswer::Refused(refusal) => Done {
+            network,
+            refusal: number_of(refusal),
+            first: 0,
+            second: 0,
+            output: 0,
+        },
+    }
+}
+
+fn call_new(case: [u64; 22]) -> Done {
+    let next = Network::new(options_of(case));
+    let answer = next.answer;
+    settled(next.network, answer)
+}
+
+fn call_options(network: Network, case: [u64; 22]) -> Done {
+    let next = network.set_options(options_of(case));
+    let answer = next.answer;
+    settled(next.network, answer)
+}
+
+// A call that no list has.
+fn no_call(network: Network) -> Done {
+    Done {
+        network,
+        refusal: 99,
+        first: 0,
+        second: 0,
+        output: 0,
+    }
+}
+
+fn call_send(network: Network, case: [u64; 22]) -> Done {
+    let draws = case[12] as usize;
+    if 4 < draws {
+        return no_call(network);
+    }
+    let extras = case[17] as usize;
+    if 4 < extras {
+        return no_call(network);
+    }
+    let lent = case;
+    let words = &lent[..];
+    let next = network.send(
+        case[6],
+        case[7],
+        case[8],
+        case[9],
+        case[10],
+        case[11],
+        &words[13..13 + draws],
+        &words[18..18 + extras],
+    );
+    let answer = next.answer;
+    sent(next.network, answer)
+}
+
+fn call_take(network: Network, now: u64, room: usize) -> Done {
+    if ROOM < room {
+        return no_call(network);
+    }
+    let mut output = [PATTERN; 1040];
+    let next = network.take_due(now, &mut output[..room]);
+    let answer = next.answer;
+    counted(next.network, answer, hash_output(output))
+}
+
+fn call_in_flight(network: Network, room: usize) -> Done {
+    if ROOM < room {
+        return no_call(network);
+    }
+    let mut output = [PATTERN; 1040];
+    let answer = network.in_flight(&mut output[..room]);
+    counted(network, answer, hash_output(output))
+}
+
+// A network of which one word is set: below 1,024 of its records, then pending, seq, the five counters and
+// the options.
+fn put(network: Network, place: usize, value: u64) -> Network {
+    let mut next = network;
+    if place < queue::WORDS {
+        next.words[place] = value;
+        return next;
+    }
+    if place == 1024 {
+        next.pending = value as usize;
+    }
+    if place == 1025 {
+        next.seq = value;
+    }
+    if place == 1026 {
+        next.sent = value;
+    }
+    if place == 1027 {
+        next.delivered = value;
+    }
+    if place == 1028 {
+        next.lost = value;
+    }
+    if place == 1029 {
+        next.replayed = value;
+    }
+    if place == 1030 {
+        next.delayed = value;
+    }
+    put_option(next, place, value)
+}
+
+fn put_option(network: Network, place: usize, value: u64) -> Network {
+    let mut next = network;
+    let mut options = next.options;
+    if place == 1031 {
+        options.packet_loss_probability = probability(value);
+    }
+    if place == 1032 {
+        options.packet_replay_probability = probability(value);
+    }
+    if place == 1033 {
+        options.one_way_delay_min = value;
+    }
+    if place == 1034 {
+        options.one_way_delay_mean = value;
+    }
+    next.options = options;
+    next
+}
+
+fn call(network: Network, case: [u64; 22]) -> Done {
+    let number = case[0];
+    if number == 1 {
+        return call_new(case);
+    }
+    if number == 2 {
+        return call_options(network, case);
+    }
+    if number == 3 {
+        return call_send(network, case);
+    }
+    if number == 4 {
+        return call_take(network, case[6], case[7] as usize);
+    }
+    if number == 5 {
+        let answer = network.pending();
+        return counted(network, answer, 0);
+    }
+    if number == 6 {
+        return call_in_flight(network, case[6] as usize);
+    }
+    if number == 7 {
+        return settled(put(network, case[6] as usize, case[7]), Settled::Done);
+    }
+    no_call(network)
+}
+
+// Whether a call gave what is expected.
+fn agrees(done: Done, case: [u64; 22]) -> bool {
+    if done.refusal != case[1] {
+        return false;
+    }
+    if done.first != case[2] {
+        return false;
+    }
+    if done.second != case[3] {
+        return false;
+    }
+    if done.output != case[4] {
+        return false;
+    }
+    hash_network(done.network) == case[5]
+}
+
+// ---- The tally
+
+// Which outcome a send met, in a network with those options.
+fn send_outcome(options: NetworkOptions, case: [u64; 22]) -> usize
+    ensures { λ r. ⌜ r ≤ 25 ⌝ }
+{
+    if case[2] == 1 {
+        return LOST;
+    }
+    if case[2] == 2 {
+        return REPLAYED;
+    }
+    if case[10] == network::REQUEST {
+        if !options.fault_client_messages {
+            return NOT_FAULTED;
+        }
+    }
+    QUEUED_ONCE
+}
+
+// Which outcome a take met that leaves so many pending.
+fn take_outcome(taken: u64, pending: usize) -> usize
+    ensures { λ r. ⌜ r ≤ 25 ⌝ }
+{
+    if taken == 0 {
+        return NONE_TAKEN;
+    }
+    if pending == 0 {
+        return ALL_TAKEN;
+    }
+    SOME_TAKEN
+}
+
+// Which outcome a call met that is expected not to be refused.
+fn outcome(options: NetworkOptions, pending: usize, case: [u64; 22]) -> usize
+    ensures { λ r. ⌜ r ≤ 25 ⌝ }
+{
+    let number = case[0];
+    if number == 1 {
+        return MADE;
+    }
+    if number == 2 {
+        return OPTIONS_SET;
+    }
+    if number == 3 {
+        return send_outcome(options, case);
+    }
+    if number == 4 {
+        return take_outcome(case[2], pending);
+    }
+    if number == 5 {
+        return PENDING_TOLD;
+    }
+    if number == 6 {
+        return LISTED;
+    }
+    WORD_PUT
+}
+
+// Where the tally has a refusal.
+fn refusal_place(number: u64) -> usize
+    ensures { λ r. ⌜ r ≤ 25 ⌝ }
+{
+    if number < 20 {
+        return OTHER;
+    }
+    if 30 < number {
+        return OTHER;
+    }
+    (number - 20) as usize
+}
+
+impl Tally {
+    pub fn new() -> Tally {
+        Tally {
+            calls: 0,
+            differing: 0,
+            met: [0u64; 26],
+        }
+    }
+
+    // With one difference more.
+    fn differs(self) -> Tally {
+        let mut next = self;
+        next.differing = one_more(next.differing);
+        next
+    }
+
+    fn meets(self, place: usize) -> Tally
+        requires { ⌜ place ≤ 25 ⌝ }
+    {
+        let mut next = self;
+        let count = next.met[place];
+        next.met[place] = one_more(count);
+        next
+    }
+
+    // With what a send beside its fate did: a copy delayed, the last place filled.
+    fn meets_beside(self, delayed: bool, full: bool) -> Tally {
+        let mut next = self;
+        if delayed {
+            next = next.meets(DELAYED);
+        }
+        if full {
+            next = next.meets(LEFT_FULL);
+        }
+        next
+    }
+
+    // With one call more, which made this network of the one before.
+    fn met_by(self, before: Network, after: Network, case: [u64; 22]) -> Tally {
+        let mut next = self;
+        next.calls = one_more(next.calls);
+        if case[1] != 0 {
+            return next.meets(refusal_place(case[1]));
+        }
+        let outcome = outcome(before.options, after.pending, case);
+        let met = next.meets(outcome);
+        if case[0] == 3 {
+            return met.meets_beside(
+                before.delayed < after.delayed,
+                after.pending == queue::CAPACITY,
+            );
+        }
+        met
+    }
+}
+
+// ---- The list
+
+fn wide(b: u8) -> u64
+    ensures { λ r. ⌜ r ≤ 255 ⌝ }
+{
+    b as u64
+}
+
+// A number from four bytes.
+fn half(list: &[u8], at: usize) -> u64
+    requires { ⌜ at + 4 ≤ length (now list) ⌝ }
+    ensures { λ r. ⌜ r ≤ 4294967295 ⌝ }
+{
+    let low = wide(list[at]) + 256 * wide(list[at + 1]);
+    let high = wide(list[at + 2]) + 256 * wide(list[at + 3]);
+    low + 65536 * high
+}
+
+// A word from eight bytes.
+fn word(list: &[u8], at: usize) -> u64
+    requires { ⌜ at + 8 ≤ length (now list) ⌝ }
+{
+    half(list, at) + 4294967296 * half(list, at + 4)
+}
+
+// The words of a call, and zeros.
+fn case_at(list: &[u8], at: usize, count: usize) -> [u64; 22]
+    requires { ⌜ (count ≤ 22) × (at + 8 * count ≤ length (now list)) ⌝ }
+{
+    let mut words = [0u64; 22];
+    let mut i: usize = 0;
+    while i < count {
+        words[i] = word(list, at + 8 * i);
+        i += 1;
+    }
+    words
+}
+
+// How many words a call has.
+fn size_of(number: u64) -> usize
+    ensures { λ r. ⌜ (1 ≤ r) × (r ≤ 22) ⌝ }
+{
+    if number < 3 {
+        return 11;
+    }
+    if number == 3 {
+        return LONGEST;
+    }
+    if number == 5 {
+        return 6;
+    }
+    if number == 6 {
+        return 7;
+    }
+    8
+}
+
+// One call: the tally with it, the network after it and where the next call begins.
+pub struct Turn {
+    pub tally: Tally,
+    pub network: Network,
+    pub next: usize,
+}
+
+// Replays the call at a place. A call that passes the end counts as a difference and ends the list.
+fn replay_call(list: &[u8], at: usize, network: Network, tally: Tally) -> Turn
+    requires { ⌜ at + 8 ≤ length (now list) ⌝ }
+    ensures { λ r. ⌜ (at + 8 ≤ r .next) × (r .next ≤ length (now (list .entry))) ⌝ }
+{
+    let size = size_of(word(list, at));
+    if list.len() - at < 8 * size {
+        return Turn {
+            tally: tally.differs(),
+            network,
+            next: list.len(),
+        };
+    }
+    let case = case_at(list, at, size);
+    let next = at + 8 * size;
+    let done = call(network, case);
+    let after = done.network;
+    let met = tally.met_by(network, after, case);
+    if agrees(done, case) {
+        return Turn {
+            tally: met,
+            network: after,
+            next,
+        };
+    }
+    Turn {
+        tally: met.differs(),
+        network: after,
+        next,
+    }
+}
+
+// Replays a list, from a perfect network on.
+pub fn replay(list: &[u8]) -> Tally {
+    let mut tally = Tally::new();
+    let first = Network::new(NetworkOptions::perfect());
+    let mut network = first.network;
+    let mut at: usize = 0;
+    while at < list.len() {
+        if list.len() - at < 8 {
+            return tally.differs();
+        }
+        let done = replay_call(list, at, network, tally);
+        tally = done.tally;
+        network = done.network;
+        at = done.next;
+    }
+    tally
+}
