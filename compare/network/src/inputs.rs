@@ -246,10 +246,12 @@ fn ill_formed(run: &Run, draws: &mut Draws) -> Option<(usize, u64)> {
         8 * draws.below(pending)
     };
     match draws.below(12) {
-        // Counts: pending, seq, sent, delivered, lost, replayed, each one more; or pending any number.
+        // Pending, seq, sent, delivered, lost, replayed: each follows from the others, modulo 2^64 too.
         0..=2 => {
             let place = draws.between(PENDING, DELAYED - 1);
-            Some((place, network[place] + 1))
+            let other = any_number(draws);
+            let is_other = draws.once_in(2) && other != network[place];
+            Some((place, if is_other { other } else { network[place] + 1 }))
         }
         3 => Some((PENDING, any_number(draws).max(129))),
         4 => Some((DELAYED, network[SEQ] + 1 + draws.below(5) as u64)),

@@ -115,19 +115,34 @@ impl Judge {
         self.generator.used()
     }
 
-    /// What is due. At the last tick take_due overflows, so that all is taken by the rules.
-    pub fn take(&mut self, now: u64) -> Vec<Record> {
-        let numbers: Vec<u64> = self.network.numbered().map(|(number, _)| number).collect();
-        let taken = if now == u64::MAX {
-            self.network.take_all()
-        } else {
-            self.network.take_due(now)
-        };
-        let numbered = numbers.into_iter().zip(&taken);
-        numbered
-            .map(|(number, envelope)| record(number, envelope))
-            .collect()
+    /// What is due, by the Rust's take_due.
+    pub fn take_due(&mut self, now: u64) -> Vec<Record> {
+        let numbers = self.numbers();
+        let taken = self.network.take_due(now);
+        records(&numbers, &taken)
     }
+
+    /// What is due by the rules: at the last tick, at which take_due overflows, all that is in flight.
+    pub fn take(&mut self, now: u64) -> Vec<Record> {
+        if now < u64::MAX {
+            return self.take_due(now);
+        }
+        let numbers = self.numbers();
+        let taken = self.network.take_all();
+        records(&numbers, &taken)
+    }
+
+    fn numbers(&self) -> Vec<u64> {
+        self.network.numbered().map(|(number, _)| number).collect()
+    }
+}
+
+/// Envelopes from the front of a queue, with the numbers that stood there.
+fn records(numbers: &[u64], taken: &[Envelope]) -> Vec<Record> {
+    let numbered = numbers.iter().zip(taken);
+    numbered
+        .map(|(&number, envelope)| record(number, envelope))
+        .collect()
 }
 
 fn record(number: u64, envelope: &Envelope) -> Record {

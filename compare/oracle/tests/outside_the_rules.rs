@@ -1,5 +1,6 @@
 //! What the Rust does where our rules refuse: the inputs of docs/DIFFERENCES.md, each run.
 
+use oracle::network::{Judge, Letter, NetworkOptions};
 use oracle::plants::{apply, fresh, simulator, verdict};
 use oracle::simulator::{parse_script, Fault, Origin};
 use std::panic::{catch_unwind, AssertUnwindSafe};
@@ -120,4 +121,83 @@ fn too_few_healthy() {
     let end = catch_unwind(AssertUnwindSafe(|| simulator.transition_to_liveness_mode()));
     assert!(end.is_err());
     assert_eq!(simulator.prng.used(), 3);
+}
+
+/// A message of kind 1 at a tick.
+fn letter(now: u64) -> Letter {
+    Letter {
+        now,
+        sort: 0,
+        origin: 0,
+        to: 0,
+        kind: 1,
+        handle: 0,
+    }
+}
+
+fn fixed_delay(min: u64) -> NetworkOptions {
+    NetworkOptions {
+        one_way_delay_min: min,
+        one_way_delay_mean: min,
+        ..NetworkOptions::perfect()
+    }
+}
+
+/// A take at the last tick overflows: it panics, or takes nothing where sums wrap.
+#[test]
+fn take_at_the_last_tick() {
+    let mut judge = Judge::new(NetworkOptions::perfect());
+    judge.send(letter(5), &[]);
+    let taken = catch_unwind(AssertUnwindSafe(|| judge.take_due(u64::MAX).len()));
+    assert_eq!(taken.is_err(), cfg!(debug_assertions));
+    assert!(taken.is_err() || taken.is_ok_and(|count| count == 0));
+}
+
+/// A due tick past the last panics, or wraps to an early one.
+#[test]
+fn due_past_the_last_tick() {
+    let mut judge = Judge::new(fixed_delay(1));
+    let sent = catch_unwind(AssertUnwindSafe(|| judge.send(letter(u64::MAX), &[])));
+    assert_eq!(sent.is_err(), cfg!(debug_assertions));
+    if sent.is_ok() {
+        assert_eq!(judge.records()[0][0], 0);
+    }
+}
+
+/// Neither the messages in flight nor those sent are limited.
+#[test]
+fn no_limits_of_a_network() {
+    let mut judge = Judge::new(NetworkOptions::perfect());
+    for _ in 0..129 {
+        judge.send(letter(0), &[]);
+    }
+    assert_eq!(judge.pending(), 129);
+    judge.set_sent_and_lost(1 << 62, 0);
+    judge.send(letter(0), &[]);
+    assert_eq!(judge.counters()[0], (1 << 62) + 1);
+}
+
+/// set_options tests nothing: NaN and numbers under 0 act as 0, those over 1 panic when they are drawn on,
+/// and a minimum over the mean is a fixed delay.
+#[test]
+fn options_not_tested() {
+    let losing = |loss| NetworkOptions {
+        packet_loss_probability: loss,
+        ..NetworkOptions::perfect()
+    };
+    for loss in [f64::NAN, -1.0] {
+        let mut judge = Judge::new(losing(loss));
+        assert_eq!(judge.send(letter(0), &[]), 0);
+        assert_eq!(judge.counters()[2], 0);
+    }
+    let mut judge = Judge::new(losing(2.0));
+    let sent = catch_unwind(AssertUnwindSafe(|| judge.send(letter(0), &[0])));
+    assert!(sent.is_err());
+    let mut judge = Judge::new(NetworkOptions::perfect());
+    judge.set_options(NetworkOptions {
+        one_way_delay_mean: 1,
+        ..fixed_delay(2)
+    });
+    judge.send(letter(0), &[]);
+    assert_eq!(judge.records()[0][0], 2);
 }
