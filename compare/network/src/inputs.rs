@@ -2,7 +2,7 @@
 
 use crate::run::{Options, Run, DELAYED, LOSS, MEAN, MIN, PENDING, ROOM, SENT, SENT_LIMIT, SEQ};
 use oracle::network::Letter;
-use scripts::draws::Draws;
+use replays::draws::Draws;
 
 const TWO: f64 = 2.0;
 

@@ -5,11 +5,10 @@
 //! and every outcome was met.
 
 mod inputs;
-mod ours;
 mod run;
 
-use ours::{Program, Tally, ROOM};
-use scripts::draws::Draws;
+use replays::draws::Draws;
+use replays::program::{Program, Tally, ROOM};
 use std::process::ExitCode;
 use std::{env, fs};
 
@@ -39,7 +38,7 @@ fn main() -> ExitCode {
 }
 
 fn compare(seed: u64, count: u64) -> ExitCode {
-    let program = Program::given();
+    let program = Program::given("network_cases");
     let mut draws = Draws::new(seed);
     let mut tally = Tally::default();
     let (mut written, mut runs, mut by_rust) = (0, 0, 0);

@@ -2,7 +2,7 @@
 
 use crate::case::{Call, Case, Words, MOST};
 use crate::expected::{self, LENT_WORDS, LIMIT};
-use scripts::draws::Draws;
+use replays::draws::Draws;
 
 /// A state of 3 to 15 plants. Once in twenty a count stands at its limit.
 fn state(draws: &mut Draws) -> Words {

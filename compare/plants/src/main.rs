@@ -7,11 +7,10 @@
 mod case;
 mod expected;
 mod inputs;
-mod ours;
 
 use case::{Answer, Call, Case};
-use ours::{Program, Tally, ROOM};
-use scripts::draws::Draws;
+use replays::draws::Draws;
+use replays::program::{Program, Tally, ROOM};
 use std::collections::BTreeMap;
 use std::process::ExitCode;
 use std::{env, fs};
@@ -60,7 +59,7 @@ fn main() -> ExitCode {
 }
 
 fn compare(seed: u64, count: usize) -> ExitCode {
-    let program = Program::given();
+    let program = Program::given("plants_cases");
     let mut draws = Draws::new(seed);
     let mut run = Run::default();
     let makers: [(Maker, usize); 4] = [

@@ -5,10 +5,8 @@
 //! there is no difference and every outcome was met.
 
 mod cluster;
-mod draws;
 mod judge;
 mod list;
-mod program;
 mod runs;
 #[path = "../../oracle/stand_ins/state_machine.rs"]
 mod state_machine;
@@ -16,9 +14,9 @@ mod state_machine;
 include!(concat!(env!("OUT_DIR"), "/properties.rs"));
 include!(concat!(env!("OUT_DIR"), "/readable.rs"));
 
-use draws::Draws;
 use list::{List, LINE, LIST_ROOM};
-use program::Tally;
+use replays::draws::Draws;
+use replays::program::{Program, Tally};
 use std::process::ExitCode;
 
 const USAGE: &str = "usage: properties [--seed N] [--count N] [--sample FILE]";
@@ -47,27 +45,28 @@ fn main() -> ExitCode {
 }
 
 fn compare(draws: &mut Draws, seed: u64, count: u64) -> ExitCode {
+    let program = Program::given("properties_cases");
     let mut tally = Tally::default();
     let mut snapshots = 0;
     let (mut longest, mut most) = (0, 0);
     while snapshots < count {
         let list = listed(draws, runs::limit(), false);
-        tally.add(&program::replayed(&list));
+        tally.add_all(&program.run(&list));
         snapshots += lines(&list).filter(judged).count() as u64;
         longest = longest.max(largest(&list, 0, 5, 128));
         most = most.max(largest(&list, 5, 1, 15));
-        if tally.met("differing") > 0 {
-            print!("{}", first_difference(&list));
+        if tally.get("differing") > 0 {
+            print!("{}", first_difference(&program, &list));
             return ExitCode::FAILURE;
         }
     }
     println!("seed {seed}: {snapshots} snapshots judged by the Rust");
     println!("of up to {most} plants, with logs of up to {longest} entries");
-    for key in &tally.keys {
-        println!("{:>9}  {key}", tally.met(key));
+    for (key, number) in tally.lines() {
+        println!("{number:>9}  {key}");
     }
-    if !tally.unmet().is_empty() {
-        println!("never met: {}", tally.unmet().join(", "));
+    if !tally.missing().is_empty() {
+        println!("never met: {}", tally.missing().join(", "));
         return ExitCode::FAILURE;
     }
     println!("no difference");
@@ -113,11 +112,11 @@ fn lines(list: &[u8]) -> impl Iterator<Item = [u64; 7]> + '_ {
 }
 
 /// The first line that differs, found by halving, and the lines since the call before it.
-fn first_difference(list: &[u8]) -> String {
+fn first_difference(program: &Program, list: &[u8]) -> String {
     let (mut agreeing, mut differing) = (0, list.len() / LINE);
     while agreeing + 1 < differing {
         let middle = (agreeing + differing) / 2;
-        if program::differing(&list[..middle * LINE]) > 0 {
+        if program.run(&list[..middle * LINE]).get("differing") > 0 {
             differing = middle;
         } else {
             agreeing = middle;

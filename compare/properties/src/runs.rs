@@ -2,9 +2,9 @@
 //! broken in one place, or a call that our rules refuse. The Rust judges each.
 
 use crate::cluster::{Entry, Plant, VALUES};
-use crate::draws::Draws;
 use crate::judge::{Judge, Verdict, PASS};
 use crate::list::{Call, Lent, List, LIST_ROOM, LOG_ROOM, PLANT_ROOM, SMALL_ROOM, TRACKER_ROOM};
+use replays::draws::Draws;
 use std::collections::BTreeSet;
 
 const ENTRIES: usize = 128;

@@ -2,11 +2,11 @@
 //! several sorts, each with a room for events.
 
 use crate::corners;
-use crate::draws::Draws;
 use crate::expected::{events_found, EVENT_WORDS, LONGEST_TEXT};
 use crate::words::{
     damage, edge_number, good_name, good_number, line, line_end, odd_number, white,
 };
+use replays::draws::Draws;
 
 /// A script, and how many words are lent for its events.
 pub struct Case {

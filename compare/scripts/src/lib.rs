@@ -3,7 +3,6 @@
 
 pub mod comparison;
 pub mod corners;
-pub mod draws;
 pub mod expected;
 pub mod inputs;
 pub mod planted;

@@ -4,9 +4,9 @@
 //! The file is a row of cases up to its end. A case is the length of its text and the length of its output,
 //! each as four bytes, the lowest first; then the text; then what the program `faults` writes for it.
 
+use replays::draws::Draws;
 use scripts::comparison::{outcome, Outcome, Tally};
 use scripts::corners;
-use scripts::draws::Draws;
 use scripts::expected::{answer, report};
 use scripts::inputs::short_text;
 use std::collections::BTreeSet;

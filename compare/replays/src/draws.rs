@@ -1,4 +1,4 @@
-//! A small random generator (SplitMix64), so that a seed gives the same scripts on every machine.
+//! A small random generator (SplitMix64), so that a seed gives the same inputs on every machine.
 
 pub struct Draws {
     state: u64,

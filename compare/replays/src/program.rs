@@ -1,41 +1,48 @@
-//! The proved program `network_cases`, run on lists of calls.
+//! A proved program, run on lists of calls, and the tally that it prints.
 
 use std::collections::BTreeMap;
 use std::io::Write;
 use std::path::{Path, PathBuf};
 use std::process::{Command, Stdio};
 
-/// The most bytes that the program reads.
+/// The most bytes that a program reads.
 pub const ROOM: usize = 512 * 1024;
 
-/// Its lines, a number for each key in the order printed.
+/// A program's lines, a number for each key in the order printed.
 #[derive(Clone, Debug, Default)]
 pub struct Tally {
     keys: Vec<String>,
     numbers: BTreeMap<String, u64>,
 }
 
-pub struct Program(PathBuf);
+pub struct Program {
+    name: &'static str,
+    path: PathBuf,
+}
 
 impl Program {
-    /// The program that NETWORK_CASES names, a relative path counting from the repository's root.
-    pub fn given() -> Program {
-        let given =
-            std::env::var_os("NETWORK_CASES").unwrap_or_else(|| "target/bin/network_cases".into());
+    /// The program of a name, or the one that the variable of that name in capitals tells: a relative path
+    /// counts from the repository's root.
+    pub fn given(name: &'static str) -> Program {
+        let given = std::env::var_os(name.to_uppercase());
         let root = Path::new(env!("CARGO_MANIFEST_DIR")).join("../..");
-        Program(root.join(given))
+        Program {
+            name,
+            path: root.join(given.unwrap_or_else(|| format!("target/bin/{name}").into())),
+        }
     }
 
     pub fn run(&self, list: &[u8]) -> Tally {
         assert!(list.len() <= ROOM);
-        let mut child = Command::new(&self.0)
+        let mut child = Command::new(&self.path)
             .stdin(Stdio::piped())
             .stdout(Stdio::piped())
             .spawn()
             .unwrap_or_else(|error| {
                 panic!(
-                    "{}: {error}; run `rt check network_cases` first",
-                    self.0.display()
+                    "{}: {error}; run `rt check {}` first",
+                    self.path.display(),
+                    self.name
                 )
             });
         // The program reads all before it prints, so that neither waits for the other.
