@@ -7,12 +7,14 @@
 mod inputs;
 mod run;
 
+use replays::arguments::arguments;
 use replays::draws::Draws;
 use replays::program::{Program, Tally, ROOM};
+use std::fs;
 use std::process::ExitCode;
-use std::{env, fs};
 
-const USAGE: &str = "usage: network [--seed N] [--count N] [--sample FILE]";
+/// How many calls are compared at least, unless told.
+const COUNT: u64 = 1_200_000;
 
 /// The sample's seed and how many bytes it may have.
 const SAMPLE_SEED: u64 = 2_027;
@@ -20,20 +22,17 @@ const SAMPLE_ROOM: usize = 200_000;
 
 type Words = Vec<Vec<u64>>;
 
-struct Arguments {
-    seed: Option<u64>,
-    count: u64,
-    sample: Option<String>,
-}
-
 fn main() -> ExitCode {
-    let Some(arguments) = arguments() else {
-        eprintln!("{USAGE}");
-        return ExitCode::from(2);
+    let arguments = match arguments("network") {
+        Ok(arguments) => arguments,
+        Err(status) => return status,
     };
     match arguments.sample {
         Some(file) => write_sample(&file, arguments.seed.unwrap_or(SAMPLE_SEED)),
-        None => compare(arguments.seed.unwrap_or(1), arguments.count),
+        None => compare(
+            arguments.seed.unwrap_or(1),
+            arguments.count.unwrap_or(COUNT),
+        ),
     }
 }
 
@@ -154,23 +153,4 @@ fn write_sample(file: &str, seed: u64) -> ExitCode {
     }
     println!("{} bytes", list.len());
     ExitCode::SUCCESS
-}
-
-fn arguments() -> Option<Arguments> {
-    let mut arguments = Arguments {
-        seed: None,
-        count: 1_200_000,
-        sample: None,
-    };
-    let mut words = env::args().skip(1);
-    while let Some(word) = words.next() {
-        let value = words.next()?;
-        match word.as_str() {
-            "--seed" => arguments.seed = Some(value.parse().ok()?),
-            "--count" => arguments.count = value.parse().ok()?,
-            "--sample" => arguments.sample = Some(value),
-            _ => return None,
-        }
-    }
-    Some(arguments)
 }

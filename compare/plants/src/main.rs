@@ -9,13 +9,15 @@ mod expected;
 mod inputs;
 
 use case::{Answer, Call, Case};
+use replays::arguments::arguments;
 use replays::draws::Draws;
 use replays::program::{Program, Tally, ROOM};
 use std::collections::BTreeMap;
+use std::fs;
 use std::process::ExitCode;
-use std::{env, fs};
 
-const USAGE: &str = "usage: plants [--seed N] [--count N] [--sample FILE]";
+/// How many cases of each call are compared, unless told.
+const COUNT: u64 = 240_000;
 
 /// How many cases of each call the sample has.
 const SAMPLE: [(Maker, usize); 5] = [
@@ -30,12 +32,6 @@ const SAMPLE_SEED: u64 = 2_026;
 
 type Maker = fn(&mut Draws) -> Case;
 
-struct Arguments {
-    seed: u64,
-    count: usize,
-    sample: Option<String>,
-}
-
 /// Cases that are gathered until the program's room is full.
 #[derive(Default)]
 struct Run {
@@ -48,21 +44,24 @@ struct Run {
 }
 
 fn main() -> ExitCode {
-    let Some(arguments) = arguments() else {
-        eprintln!("{USAGE}");
-        return ExitCode::from(2);
+    let arguments = match arguments("plants") {
+        Ok(arguments) => arguments,
+        Err(status) => return status,
     };
     match arguments.sample {
         Some(file) => write_sample(&file),
-        None => compare(arguments.seed, arguments.count),
+        None => compare(
+            arguments.seed.unwrap_or(1),
+            arguments.count.unwrap_or(COUNT),
+        ),
     }
 }
 
-fn compare(seed: u64, count: usize) -> ExitCode {
+fn compare(seed: u64, count: u64) -> ExitCode {
     let program = Program::given("plants_cases");
     let mut draws = Draws::new(seed);
     let mut run = Run::default();
-    let makers: [(Maker, usize); 4] = [
+    let makers: [(Maker, u64); 4] = [
         (inputs::new, 1_000),
         (inputs::apply, count),
         (inputs::verdict, count),
@@ -191,23 +190,4 @@ fn write_sample(file: &str) -> ExitCode {
     }
     println!("{} bytes", bytes.len());
     ExitCode::SUCCESS
-}
-
-fn arguments() -> Option<Arguments> {
-    let mut arguments = Arguments {
-        seed: 1,
-        count: 240_000,
-        sample: None,
-    };
-    let mut words = env::args().skip(1);
-    while let Some(word) = words.next() {
-        let value = words.next()?;
-        match word.as_str() {
-            "--seed" => arguments.seed = value.parse().ok()?,
-            "--count" => arguments.count = value.parse().ok()?,
-            "--sample" => arguments.sample = Some(value),
-            _ => return None,
-        }
-    }
-    Some(arguments)
 }

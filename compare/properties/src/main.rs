@@ -15,33 +15,30 @@ include!(concat!(env!("OUT_DIR"), "/properties.rs"));
 include!(concat!(env!("OUT_DIR"), "/readable.rs"));
 
 use list::{List, LINE, LIST_ROOM};
+use replays::arguments::arguments;
 use replays::draws::Draws;
 use replays::program::{Program, Tally};
 use std::process::ExitCode;
 
-const USAGE: &str = "usage: properties [--seed N] [--count N] [--sample FILE]";
+/// How many snapshots are compared at least, unless told.
+const COUNT: u64 = 200_000;
 
 /// Bytes of the fixed sample, at which no further run begins.
 const SAMPLE: usize = 180_000;
 
-struct Arguments {
-    seed: u64,
-    count: u64,
-    sample: Option<String>,
-}
-
 fn main() -> ExitCode {
-    let Some(arguments) = arguments() else {
-        eprintln!("{USAGE}");
-        return ExitCode::from(2);
+    let arguments = match arguments("properties") {
+        Ok(arguments) => arguments,
+        Err(status) => return status,
     };
-    let mut draws = Draws::new(arguments.seed);
+    let seed = arguments.seed.unwrap_or(1);
+    let mut draws = Draws::new(seed);
     if let Some(file) = arguments.sample {
         let list = listed(&mut draws, SAMPLE, true);
         std::fs::write(&file, list).expect("the sample can be written");
         return ExitCode::SUCCESS;
     }
-    compare(&mut draws, arguments.seed, arguments.count)
+    compare(&mut draws, seed, arguments.count.unwrap_or(COUNT))
 }
 
 fn compare(draws: &mut Draws, seed: u64, count: u64) -> ExitCode {
@@ -129,23 +126,4 @@ fn first_difference(program: &Program, list: &[u8]) -> String {
         told += &format!("  {line:?}\n");
     }
     told
-}
-
-fn arguments() -> Option<Arguments> {
-    let mut arguments = Arguments {
-        seed: 1,
-        count: 200_000,
-        sample: None,
-    };
-    let mut given = std::env::args().skip(1);
-    while let Some(option) = given.next() {
-        let value = given.next()?;
-        match option.as_str() {
-            "--seed" => arguments.seed = value.parse().ok()?,
-            "--count" => arguments.count = value.parse().ok()?,
-            "--sample" => arguments.sample = Some(value),
-            _ => return None,
-        }
-    }
-    Some(arguments)
 }

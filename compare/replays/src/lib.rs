@@ -1,4 +1,5 @@
-//! What the comparisons share: random numbers, and our proved programs with the tallies that they print.
+//! What the comparisons share: arguments, random numbers, and our proved programs with the tallies that they print.
 
+pub mod arguments;
 pub mod draws;
 pub mod program;
