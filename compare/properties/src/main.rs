@@ -23,6 +23,9 @@ use std::process::ExitCode;
 /// How many snapshots are compared at least, unless told.
 const COUNT: u64 = 200_000;
 
+/// The sample's seed, one with which every planted fault is reported.
+const SAMPLE_SEED: u64 = 10;
+
 /// Bytes of the fixed sample, at which no further run begins.
 const SAMPLE: usize = 180_000;
 
@@ -31,17 +34,28 @@ fn main() -> ExitCode {
         Ok(arguments) => arguments,
         Err(status) => return status,
     };
-    let seed = arguments.seed.unwrap_or(1);
-    let mut draws = Draws::new(seed);
-    if let Some(file) = arguments.sample {
-        let list = listed(&mut draws, SAMPLE, true);
-        std::fs::write(&file, list).expect("the sample can be written");
-        return ExitCode::SUCCESS;
+    match arguments.sample {
+        Some(file) => write_sample(&file, arguments.seed.unwrap_or(SAMPLE_SEED)),
+        None => compare(
+            arguments.seed.unwrap_or(1),
+            arguments.count.unwrap_or(COUNT),
+        ),
     }
-    compare(&mut draws, seed, arguments.count.unwrap_or(COUNT))
 }
 
-fn compare(draws: &mut Draws, seed: u64, count: u64) -> ExitCode {
+/// Writes the fixed sample.
+fn write_sample(file: &str, seed: u64) -> ExitCode {
+    let list = listed(&mut Draws::new(seed), SAMPLE, true);
+    if let Err(error) = std::fs::write(file, &list) {
+        eprintln!("{file}: {error}");
+        return ExitCode::FAILURE;
+    }
+    println!("{} bytes", list.len());
+    ExitCode::SUCCESS
+}
+
+fn compare(seed: u64, count: u64) -> ExitCode {
+    let draws = &mut Draws::new(seed);
     let program = Program::given("properties_cases");
     let mut tally = Tally::default();
     let mut snapshots = 0;
