@@ -7,10 +7,9 @@
 mod inputs;
 mod run;
 
-use replays::arguments::arguments;
+use replays::arguments::Comparison;
 use replays::draws::Draws;
 use replays::program::{Program, Tally, ROOM};
-use std::fs;
 use std::process::ExitCode;
 
 /// How many calls are compared at least, unless told.
@@ -23,17 +22,14 @@ const SAMPLE_ROOM: usize = 200_000;
 type Words = Vec<Vec<u64>>;
 
 fn main() -> ExitCode {
-    let arguments = match arguments("network") {
-        Ok(arguments) => arguments,
-        Err(status) => return status,
+    let comparison = Comparison {
+        name: "network",
+        count: COUNT,
+        sample_seed: SAMPLE_SEED,
+        compare,
+        sample,
     };
-    match arguments.sample {
-        Some(file) => write_sample(&file, arguments.seed.unwrap_or(SAMPLE_SEED)),
-        None => compare(
-            arguments.seed.unwrap_or(1),
-            arguments.count.unwrap_or(COUNT),
-        ),
-    }
+    comparison.run()
 }
 
 fn compare(seed: u64, count: u64) -> ExitCode {
@@ -136,21 +132,15 @@ fn bytes(calls: &[Vec<u64>]) -> Vec<u8> {
     words.flat_map(|word| word.to_le_bytes()).collect()
 }
 
-/// Writes the fixed sample: as many random runs as fit.
-fn write_sample(file: &str, seed: u64) -> ExitCode {
+/// The fixed sample: as many random runs as fit.
+fn sample(seed: u64) -> Vec<u8> {
     let mut draws = Draws::new(seed);
     let mut list = Vec::new();
     loop {
         let run = bytes(&inputs::run(&mut draws).calls);
         if list.len() + run.len() > SAMPLE_ROOM {
-            break;
+            return list;
         }
         list.extend(run);
     }
-    if let Err(error) = fs::write(file, &list) {
-        eprintln!("{file}: {error}");
-        return ExitCode::FAILURE;
-    }
-    println!("{} bytes", list.len());
-    ExitCode::SUCCESS
 }

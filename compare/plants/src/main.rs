@@ -9,11 +9,10 @@ mod expected;
 mod inputs;
 
 use case::{Answer, Call, Case};
-use replays::arguments::arguments;
+use replays::arguments::Comparison;
 use replays::draws::Draws;
 use replays::program::{Program, Tally, ROOM};
 use std::collections::BTreeMap;
-use std::fs;
 use std::process::ExitCode;
 
 /// How many cases of each call are compared, unless told.
@@ -44,17 +43,14 @@ struct Run {
 }
 
 fn main() -> ExitCode {
-    let arguments = match arguments("plants") {
-        Ok(arguments) => arguments,
-        Err(status) => return status,
+    let comparison = Comparison {
+        name: "plants",
+        count: COUNT,
+        sample_seed: SAMPLE_SEED,
+        compare,
+        sample,
     };
-    match arguments.sample {
-        Some(file) => write_sample(&file),
-        None => compare(
-            arguments.seed.unwrap_or(1),
-            arguments.count.unwrap_or(COUNT),
-        ),
-    }
+    comparison.run()
 }
 
 fn compare(seed: u64, count: u64) -> ExitCode {
@@ -174,9 +170,9 @@ fn told(case: &Case) -> String {
     }
 }
 
-/// Writes the fixed sample: of each call the first so many random cases.
-fn write_sample(file: &str) -> ExitCode {
-    let mut draws = Draws::new(SAMPLE_SEED);
+/// The fixed sample: of each call the first so many random cases.
+fn sample(seed: u64) -> Vec<u8> {
+    let mut draws = Draws::new(seed);
     let mut bytes = Vec::new();
     for (make, count) in SAMPLE {
         for _ in 0..count {
@@ -184,10 +180,5 @@ fn write_sample(file: &str) -> ExitCode {
         }
     }
     assert!(bytes.len() <= ROOM);
-    if let Err(error) = fs::write(file, &bytes) {
-        eprintln!("{file}: {error}");
-        return ExitCode::FAILURE;
-    }
-    println!("{} bytes", bytes.len());
-    ExitCode::SUCCESS
+    bytes
 }

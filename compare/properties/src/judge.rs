@@ -97,13 +97,7 @@ impl Judge {
             replies: &[],
             core: &[],
         };
-        let copies: [&mut dyn readable::Property; 4] = [
-            &mut self.commits,
-            &mut self.agreement,
-            &mut self.duplicates,
-            &mut self.durability,
-        ];
-        for property in copies {
+        for property in self.copies() {
             if let Err(error) = property.check(&context) {
                 return Some(error.to_string());
             }
@@ -111,17 +105,21 @@ impl Judge {
         None
     }
 
-    fn rebooted(&mut self, id: usize) {
-        for property in &mut self.unchanged {
-            property.on_reboot(id);
-        }
-        let copies: [&mut dyn readable::Property; 4] = [
+    /// The readable copies of the properties of a tick, in their order.
+    fn copies(&mut self) -> [&mut dyn readable::Property; 4] {
+        [
             &mut self.commits,
             &mut self.agreement,
             &mut self.duplicates,
             &mut self.durability,
-        ];
-        for property in copies {
+        ]
+    }
+
+    fn rebooted(&mut self, id: usize) {
+        for property in &mut self.unchanged {
+            property.on_reboot(id);
+        }
+        for property in self.copies() {
             property.on_reboot(id);
         }
     }

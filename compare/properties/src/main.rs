@@ -15,7 +15,7 @@ include!(concat!(env!("OUT_DIR"), "/properties.rs"));
 include!(concat!(env!("OUT_DIR"), "/readable.rs"));
 
 use list::{List, LINE, LIST_ROOM};
-use replays::arguments::arguments;
+use replays::arguments::Comparison;
 use replays::draws::Draws;
 use replays::program::{Program, Tally};
 use std::process::ExitCode;
@@ -30,28 +30,19 @@ const SAMPLE_SEED: u64 = 10;
 const SAMPLE: usize = 180_000;
 
 fn main() -> ExitCode {
-    let arguments = match arguments("properties") {
-        Ok(arguments) => arguments,
-        Err(status) => return status,
+    let comparison = Comparison {
+        name: "properties",
+        count: COUNT,
+        sample_seed: SAMPLE_SEED,
+        compare,
+        sample,
     };
-    match arguments.sample {
-        Some(file) => write_sample(&file, arguments.seed.unwrap_or(SAMPLE_SEED)),
-        None => compare(
-            arguments.seed.unwrap_or(1),
-            arguments.count.unwrap_or(COUNT),
-        ),
-    }
+    comparison.run()
 }
 
-/// Writes the fixed sample.
-fn write_sample(file: &str, seed: u64) -> ExitCode {
-    let list = listed(&mut Draws::new(seed), SAMPLE, true);
-    if let Err(error) = std::fs::write(file, &list) {
-        eprintln!("{file}: {error}");
-        return ExitCode::FAILURE;
-    }
-    println!("{} bytes", list.len());
-    ExitCode::SUCCESS
+/// The fixed sample.
+fn sample(seed: u64) -> Vec<u8> {
+    listed(&mut Draws::new(seed), SAMPLE, true)
 }
 
 fn compare(seed: u64, count: u64) -> ExitCode {
