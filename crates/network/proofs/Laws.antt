@@ -18,7 +18,7 @@ use Rattle.nights.proofs.Exact.{in-keep, of-keep}
 use Rattle.nights.proofs.Kept.{good, call-keeps}
 use Rattle.network.specs.declared.Network.{Network}
 use Rattle.network.specs.declared.Refusal.{Refusal}
-use Rattle.network.specs.declared.Refusal.the-variants.{BadLoss, BadReplay, MinOverMean, IllFormed, BadKindOrSort, SentLimit, ShortDraws, ShortExtras, LateTick, Full, ShortOutput}
+use Rattle.network.specs.declared.Refusal.the-variants.{BadLoss, BadReplay, MinOverMean, IllFormed, BadKindOrSort, SentLimit, ShortDraws, ShortExtras, LateTick, Full, ShortOutput, BadJournal, NoJournalRoom, TooFarBack}
 use Rattle.network.specs.declared.Settled.{Settled}
 use Rattle.network.specs.declared.Settled.the-variants.{Done, Refused}
 use Rattle.network.specs.declared.Counted.{Counted}
@@ -117,7 +117,11 @@ refusalOf k =
     (cond (eqb k 23) IllFormed
     (cond (eqb k 24) BadKindOrSort
     (cond (eqb k 25) SentLimit
-    (cond (eqb k 26) ShortDraws (cond (eqb k 27) ShortExtras (cond (eqb k 28) LateTick (cond (eqb k 29) Full ShortOutput)))))))))
+    (cond (eqb k 26) ShortDraws
+    (cond (eqb k 27) ShortExtras
+    (cond (eqb k 28) LateTick
+    (cond (eqb k 29) Full
+    (cond (eqb k 30) ShortOutput (cond (eqb k 31) BadJournal (cond (eqb k 32) NoJournalRoom TooFarBack))))))))))))
 
 back : (r : Refusal) → refusalOf (number r) ≡ r
 unfolding refusalOf
@@ -132,6 +136,9 @@ back ShortExtras = refl
 back LateTick = refl
 back Full = refl
 back ShortOutput = refl
+back BadJournal = refl
+back NoJournalRoom = refl
+back TooFarBack = refl
 
 pub numbered-once : (r t : Refusal) → number r ≡ number t → r ≡ t
 numbered-once r t e = sym (back r) ∙ (ap refusalOf e ∙ back t)

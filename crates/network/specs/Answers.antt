@@ -6,7 +6,7 @@ use Rattle.nights.specs.Net.{Fate, refuse, lose, once, twice, bit, lostBy, repl
 use Rattle.nights.specs.Draws.{Decided, refusing}
 use Rattle.nights.specs.Journal.{Answer, done, refused}
 use Rattle.network.specs.declared.Refusal.{Refusal}
-use Rattle.network.specs.declared.Refusal.the-variants.{BadLoss, BadReplay, MinOverMean, IllFormed, BadKindOrSort, SentLimit, ShortDraws, ShortExtras, LateTick, Full, ShortOutput}
+use Rattle.network.specs.declared.Refusal.the-variants.{BadLoss, BadReplay, MinOverMean, IllFormed, BadKindOrSort, SentLimit, ShortDraws, ShortExtras, LateTick, Full, ShortOutput, BadJournal, NoJournalRoom, TooFarBack}
 use Rattle.network.specs.declared.Settled.{Settled}
 use Rattle.network.specs.declared.Settled.the-variants.{Done, Refused}
 use Rattle.network.specs.declared.Counted.{Counted}
@@ -30,6 +30,9 @@ number ShortExtras = 27
 number LateTick = 28
 number Full = 29
 number ShortOutput = 30
+number BadJournal = 31
+number NoJournalRoom = 32
+number TooFarBack = 33
 
 -- a call that has nothing more to tell
 abbrev pub settledOf : Settled → Answer

@@ -61,7 +61,7 @@ pub struct NetworkOptions {
     pub fault_client_messages: bool,
 }
 
-// Why a call is refused; `number` in specs/Answers gives each its number.
+// Why a call is refused; `number` in specs/Answers gives each its number. The last three are for the calls of `journal`.
 pub enum Refusal {
     BadLoss,
     BadReplay,
@@ -74,6 +74,9 @@ pub enum Refusal {
     LateTick,
     Full,
     ShortOutput,
+    BadJournal,
+    NoJournalRoom,
+    TooFarBack,
 }
 
 // The answer of a call that has nothing more to tell.

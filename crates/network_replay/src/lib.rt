@@ -182,6 +182,9 @@ fn number_of(refusal: Refusal) -> u64 {
         Refusal::LateTick => 28,
         Refusal::Full => 29,
         Refusal::ShortOutput => 30,
+        Refusal::BadJournal => 31,
+        Refusal::NoJournalRoom => 32,
+        Refusal::TooFarBack => 33,
     }
 }
 

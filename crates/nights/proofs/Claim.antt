@@ -7,15 +7,14 @@ use Rattle.nights.specs.Net.{Options, Draws, Plain, goodOptions}
 use Rattle.nights.specs.Journal.{Call, mark}
 use Rattle.nights.specs.Rule.{reach, stack, stands, replay, recorded, Earlier, Claim}
 use Rattle.nights.specs.Draws.{fateOf}
-use Rattle.nights.proofs.Run.{the-network-is-told, fold-of-standing, rewinds, no-further, mark-holds, the-journal-holds, size-stays}
+use Rattle.nights.proofs.Run.{the-numbers-are-counted, fold-of-standing, rewinds, no-further, mark-holds, the-journal-holds, size-stays}
 use Rattle.nights.proofs.Back.{earlier-time}
 use Rattle.nights.proofs.Exact.{the-pending-are-exactly}
 
 pub claim : (fate : Draws) (o : Options) → goodOptions o ≡ true → (rest : List ℕ) (cs : List Call) → Claim fate o rest cs
 claim fate o good rest cs =
     record {
-      told = the-network-is-told fate o good rest cs;
-      exactly = the-pending-are-exactly fate o good rest cs;
+      told = record { counted = the-numbers-are-counted fate o good rest cs; pending = the-pending-are-exactly fate o good rest cs };
       folds = fold-of-standing fate o good rest cs;
       goesBack =
           λ (k : ℕ) (h : k ≤ reach fate o rest cs).

@@ -9,10 +9,11 @@ use lib.ListN.{length, length-append, length-map}
 use Rattle.nights.specs.Record.{Record}
 use Rattle.nights.specs.Net.{Options, Network, keep, insertBy, insertAll, dues, Draws, Letter, copies, Plain, send, take as takes, choose, goodOptions, rising}
 use Rattle.nights.specs.Journal.{Call}
-use Rattle.nights.specs.Rule.{ran, stack, stands, optionsBy, makes, Made, followed, made, waits, copyOf, pendingRule, from, seqOf, Exactly, replay}
+use Rattle.nights.specs.Rule.{ran, stack, stands, optionsBy, makes, Made, followed, made, waits, copyOf, from, seqOf, Exactly, replay}
 use Rattle.nights.proofs.Order.{precedes}
 use Rattle.nights.proofs.Good.{good-replay, fit-replay, rises-of}
-use Rattle.nights.proofs.Run.{fold-of-standing, all-sound, the-network-is-told}
+use Rattle.nights.proofs.Fold.{sortedCopies}
+use Rattle.nights.proofs.Run.{fold-of-standing, all-sound, the-pending-are-sorted}
 
 -- MEMBERS of an insertion, a filter and a map
 
@@ -161,7 +162,7 @@ made-numbers fate o q (c ∷ later) =
     ∙ rw (l, from-append (q + 1) (length rs) (length ms), h, makes-numbers fate o q c later)
 
 -- THE THEOREM
-exactly-rule : (fate : Draws) (o : Options) (st : List Plain) (l : List Record) → l ≡ pendingRule fate o st → rising l ≡ true
+exactly-rule : (fate : Draws) (o : Options) (st : List Plain) (l : List Record) → l ≡ sortedCopies fate o st → rising l ≡ true
     → Exactly (made fate o 0 st) l
 exactly-rule fate o st l e h =
     let ms : List Made = made fate o 0 st in
@@ -190,4 +191,4 @@ the-pending-are-exactly fate o good rest cs =
     let n : Network = ran fate o rest cs .net in
     let e : n ≡ replay fate o st = fold-of-standing fate o good rest cs in
     let h : rising (n .pending) ≡ true = rw e (rises-of (replay fate o st) (good-replay fate o st) (fit-replay fate o st good (all-sound fate o good rest cs))) in
-    exactly-rule fate o (stands fate o rest cs) (n .pending) (the-network-is-told fate o good rest cs .pending) h
+    exactly-rule fate o (stands fate o rest cs) (n .pending) (the-pending-are-sorted fate o good rest cs) h

@@ -7,7 +7,7 @@ use native.Mathlib.Omega.{arith}
 use lib.ListN.{length, length-append, length-map}
 use Rattle.nights.specs.Record.{Record}
 use Rattle.nights.specs.Net.{Options, Network, fresh, keep, insertBy, insertAll, Fate, dues, lostBy, replayedBy, delayedBy, Draws, Letter, copies, Plain, send, take as takes, choose, isLater, effect, goodOptions}
-use Rattle.nights.specs.Rule.{replay, optionsBy, optionsRule, fateBy, fates, total, makes, Made, followed, made, missedBy, untaken, waits, copyOf, pendingRule, deliveredRule, sentRule, lostRule, replayedRule, delayedRule, Told}
+use Rattle.nights.specs.Rule.{replay, optionsBy, optionsRule, fateBy, fates, total, makes, Made, followed, made, missedBy, untaken, waits, copyOf, deliveredRule, sentRule, lostRule, replayedRule, delayedRule, Counted}
 use Rattle.nights.proofs.Order.{All, Ordered, Newer, all-insert, length-split, keep-keep, keep-all, ordered-insert, insertAll-append, length-insertAll, unseen, seen}
 use Rattle.nights.proofs.Good.{Numbered, Good, copyAt, raise, newer, length-copies, good-effect, good-fresh, good-replay, Sound, Fit, fit-replay}
 
@@ -180,14 +180,20 @@ module _ (fate : Draws) where
         omega (arith, h, one c n, total-append by (fateBy fate (n .options) c) (fates fate (optionsBy (n .options) c) later))
 
 -- STEP 3
+
+-- the copies that wait, sorted by due tick and then by seq
+abbrev pub sortedCopies : Draws → Options → List Plain → List Record
+sortedCopies fate o st = insertAll (map copyOf (keep waits (made fate o 0 st))) []
+
 module _ (fate : Draws) (o : Options) (st : List Plain) where
-  told-forward : (n : Network) → n ≡ forward fate (fresh o) (reverse st) → Good n → Fit n → Told fate o (reverse st) n
+  sorted-forward : (n : Network) → n ≡ forward fate (fresh o) (reverse st) → n .pending ≡ sortedCopies fate o (reverse st)
   unfolding keep
-  told-forward n e g t =
+  sorted-forward n e = ap (λ (x : Network). x .pending) e ∙ fold-pending fate (reverse st) (fresh o) (good-fresh o)
+
+  counted-forward : (n : Network) → n ≡ forward fate (fresh o) (reverse st) → Good n → Fit n → Counted fate o (reverse st) n
+  counted-forward n e g t =
       let r : List Plain = reverse st in
-      let m : Network = forward fate (fresh o) r in
       let ms : List Made = made fate o 0 r in
-      let pending : n .pending ≡ pendingRule fate o r = ap (λ (x : Network). x .pending) e ∙ fold-pending fate r (fresh o) (good-fresh o) in
       let seq : n .seq ≡ length ms = omega (arith, ap (λ (x : Network). x .seq) e, fold-seq fate r (fresh o)) in
       let sent : n .sent ≡ sentRule fate o r = omega (arith, ap (λ (x : Network). x .sent) e, fold-sent fate r (fresh o)) in
       let lost : n .lost ≡ lostRule fate o r =
@@ -196,20 +202,23 @@ module _ (fate : Draws) (o : Options) (st : List Plain) where
       omega (arith, ap (λ (x : Network). x .replayed) e, fold-total fate (λ (x : Network). x .replayed) replayedBy (one-replayed fate) r (fresh o)) in
       let delayed : n .delayed ≡ delayedRule fate o r =
       omega (arith, ap (λ (x : Network). x .delayed) e, fold-total fate (λ (x : Network). x .delayed) delayedBy (one-delayed fate) r (fresh o)) in
-      let size : length (n .pending) ≡ length (keep waits ms) =
-      ap length pending ∙ omega (arith, length-insertAll (map copyOf (keep waits ms)) [], length-map (keep waits ms) copyOf) in
+      let waiting : length (n .pending) ≡ length (keep waits ms) =
+      ap length (sorted-forward n e) ∙ omega (arith, length-insertAll (map copyOf (keep waits ms)) [], length-map (keep waits ms) copyOf) in
       let delivered : n .delivered ≡ deliveredRule fate o r = omega (arith, g .counted, length-split waits ms) in
       record {
         options = ap (λ (x : Network). x .options) e ∙ fold-options fate r (fresh o);
-        pending = pending;
         seq = seq;
         sent = sent;
         delivered = delivered;
         lost = lost;
         replayed = replayed;
         delayed = delayed;
-        balance = omega (arith, t .even, g .counted, sent, replayed, delivered, lost, ap length pending);
+        waiting = waiting;
+        balance = omega (arith, t .even, g .counted, sent, replayed, delivered, lost, waiting);
       }
 
-  pub told : goodOptions o ≡ true → Sound fate o st → Told fate o (reverse st) (replay fate o st)
-  told h s = told-forward (replay fate o st) (replay-forward fate o st) (good-replay fate o st) (fit-replay fate o st h s)
+  pub pending-sorted : replay fate o st .pending ≡ sortedCopies fate o (reverse st)
+  pending-sorted = sorted-forward (replay fate o st) (replay-forward fate o st)
+
+  pub counted : goodOptions o ≡ true → Sound fate o st → Counted fate o (reverse st) (replay fate o st)
+  counted h s = counted-forward (replay fate o st) (replay-forward fate o st) (good-replay fate o st) (fit-replay fate o st h s)

@@ -13,9 +13,9 @@ use Rattle.chance.specs.Probability.{goodWord}
 use Rattle.nights.specs.Record.{Record, wordsOf}
 use Rattle.nights.specs.Net.{Options, Network, keep, Fate, dues, Draws, Letter, Plain, send, take as takes, choose, isDue, effect, goodOptions, wellFormed}
 use Rattle.nights.specs.Journal.{Answer, done, refused, Call, plain, rewind, mark, State, Step, held, used, logged, goodHeader, undoWords, undone, undoAll, Test, verdict, sendTests, tests, journalTests, settle, after, doPlain, rewound, doRewind, doMark, step}
-use Rattle.nights.specs.Rule.{start, run, log, strike, struck, reachBy, reached, reach, ran, stack, stands, replay, flat, recorded, Told}
+use Rattle.nights.specs.Rule.{start, run, log, strike, struck, reachBy, reached, reach, ran, stack, stands, replay, flat, recorded, Counted}
 use Rattle.nights.proofs.Good.{PassedSend, Passed, Sound, well-formed-replay}
-use Rattle.nights.proofs.Fold.{told}
+use Rattle.nights.proofs.Fold.{sortedCopies, pending-sorted, counted}
 use Rattle.nights.proofs.Undo.{undo-many}
 
 -- WHAT A STATE HOLDS, where `st` stands (the newest first), of it `kept` is out of a rewind's reach, and the journal has `size` words
@@ -121,8 +121,8 @@ passed-tests fate (choose p) n more e =
     let c = passed _ _ (b .1) in
     (passed-choose p (a .0) (b .0) (c .0), c .1)
 
-passed-journal : (w u : List ℕ) → verdict (journalTests w u) ≡ done → used w + length u ≤ length w
-passed-journal w u e = leb-true (used w + length u) (length w) (passed _ _ (passed _ _ e .1) .0)
+passed-journal : (w : List ℕ) (size : ℕ) → verdict (journalTests w size) ≡ done → used w + size ≤ length w
+passed-journal w size e = leb-true (used w + size) (length w) (passed _ _ (passed _ _ e .1) .0)
 
 -- a record is written behind the others
 logged-is : (c : ℕ) (f rest u : List ℕ)
@@ -161,7 +161,7 @@ module _ (fate : Draws) (o : Options) (good : goodOptions o ≡ true) (size : �
   plain-next = go (verdict (first ∷ ts)) refl
     where
       more : List Test
-      more = journalTests (s .words) (undoWords c (s .net))
+      more = journalTests (s .words) (length (undoWords c (s .net)))
 
       ts : List Test
       ts = tests fate c (s .net) more
@@ -174,7 +174,7 @@ module _ (fate : Draws) (o : Options) (good : goodOptions o ≡ true) (size : �
           (reachBy r (plain c) (settle a (after fate c s) s .answer))
       go done e =
           let p = passed-tests fate c (s .net) more (passed first ts e .1) in
-          same fate o (accepted (p .0) (passed-journal (s .words) (undoWords c (s .net)) (p .1)))
+          same fate o (accepted (p .0) (passed-journal (s .words) (length (undoWords c (s .net))) (p .1)))
       go (refused k) e = same fate o f
 
 -- A MARK
@@ -342,11 +342,14 @@ module _ (fate : Draws) (o : Options) (good : goodOptions o ≡ true) (rest : Li
   pub all-sound : (cs : List Call) → Sound fate o (stack fate o rest cs)
   all-sound cs = all-follows cs .follows .sound
 
-  -- steps 2 and 3: the network is what the standing list says
-  pub the-network-is-told : (cs : List Call) → Told fate o (stands fate o rest cs) (ran fate o rest cs .net)
-  the-network-is-told cs =
+  -- steps 2 and 3: the options and the counters are what the standing list says, and the pending list is the copies that wait, sorted
+  pub the-numbers-are-counted : (cs : List Call) → Counted fate o (stands fate o rest cs) (ran fate o rest cs .net)
+  the-numbers-are-counted cs =
       let f = all-follows cs .follows in
-      rw (f .net) (told fate o (stack fate o rest cs) good (f .sound))
+      rw (f .net) (counted fate o (stack fate o rest cs) good (f .sound))
+
+  pub the-pending-are-sorted : (cs : List Call) → ran fate o rest cs .net .pending ≡ sortedCopies fate o (stands fate o rest cs)
+  the-pending-are-sorted cs = rw (all-follows cs .follows .net) (pending-sorted fate o (stack fate o rest cs))
 
   -- a rewind is accepted if its k is at most what stands since the last mark, and leaves the network before the last k
   pub rewinds : (cs : List Call) (k : ℕ) → k ≤ reach fate o rest cs

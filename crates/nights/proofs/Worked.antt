@@ -9,7 +9,7 @@ use Rattle.nights.specs.Net
 use Rattle.nights.specs.Record.{Record, wordsOf, recs}
 use Rattle.nights.specs.Net.{Options, Letter, twice, send, choose, fresh, keep, every, earlier, insertBy, insertAll, dues, lostBy, replayedBy, delayedBy, copies, effect, goodOptions, goodRecord, ahead, rising, goodCounts, wellFormed}
 use Rattle.nights.specs.Journal.{State, Answer, done, refused, Call, plain, rewind, mark, held, used, logged, goodHeader, undoWords, undoAs, undoOne, checked, onward, undoAll, verdict, tests, settle, doPlain, rewound, doRewind, doMark, step}
-use Rattle.nights.specs.Rule.{run, log, Entry, strike, struck, ran, logOf, stands, reach, reachBy, reached, optionsBy, optionsRule, fateBy, fates, total, makes, made, missedBy, untaken, pendingRule, deliveredRule, sentRule, lostRule, replayedRule, delayedRule}
+use Rattle.nights.specs.Rule.{run, log, Entry, strike, struck, ran, logOf, stands, reach, reachBy, reached, optionsBy, optionsRule, fateBy, fates, total, makes, made, missedBy, untaken, copyOf, waits, deliveredRule, sentRule, lostRule, replayedRule, delayedRule}
 use Rattle.chance.specs.Probability.{goodWord, isOne, isZero, thresholdOf}
 use Rattle.chance.specs.Draw.{byWord, genBool, genBoolInSend}
 use Rattle.nights.specs.Draws.{isFaulted, extrasFor, extraAt, dueAt, isTick, isLate, alone as aloneOf, both, afterReplay, afterLoss, decided, fateOf}
@@ -48,8 +48,9 @@ seqs l = map (λ (r : Record). r .seq) l
 abbrev pub ticks : List Record → List ℕ
 ticks l = map (λ (r : Record). r .due) l
 
+-- the copies that wait by the rule, in the order of making
 abbrev pub ruleOf : List Call → List Record
-ruleOf cs = pendingRule fateOf half (stands fateOf half rest cs)
+ruleOf cs = map copyOf (keep waits (made fateOf half 0 (stands fateOf half rest cs)))
 
 -- the run of the document
 abbrev pub three : List Call
@@ -69,7 +70,7 @@ pub worked :
     × (held (after four .words) ≡ 1)
     × (used (after four .words) ≡ 8)
     × (seqs (ruleOf three) ≡ 1 ∷ [])
-    × (seqs (ruleOf four) ≡ 2 ∷ 1 ∷ [])
+    × (seqs (ruleOf four) ≡ 1 ∷ 2 ∷ [])
 unfolding
     toBits ofBits goodWord isOne isZero thresholdOf byWord genBool genBoolInSend
     isFaulted extrasFor extraAt dueAt isTick isLate aloneOf both afterReplay afterLoss decided
@@ -95,8 +96,8 @@ pub clock-goes-back :
     (answers back ≡ done ∷ done ∷ done ∷ done ∷ refused 33 ∷ done ∷ refused 33 ∷ done ∷ done ∷ done ∷ [])
     × (ticks (after back .net .pending) ≡ 5 ∷ 6 ∷ 11 ∷ [])
     × (seqs (after back .net .pending) ≡ 3 ∷ 5 ∷ 4 ∷ [])
-    × (ticks (ruleOf back) ≡ 5 ∷ 6 ∷ 11 ∷ [])
-    × (seqs (ruleOf back) ≡ 3 ∷ 5 ∷ 4 ∷ [])
+    × (ticks (ruleOf back) ≡ 5 ∷ 11 ∷ 6 ∷ [])
+    × (seqs (ruleOf back) ≡ 3 ∷ 4 ∷ 5 ∷ [])
     × (length (stands fateOf half rest back) ≡ 5)
     × (reach fateOf half rest back ≡ 1)
     × (held (after back .words) ≡ 1)

@@ -186,9 +186,10 @@ tests fate (takes now room) n more =
     record { passes = leb (recordSize * length (keep (isDue now) (n .pending))) room; number = 30 } ∷ more
 tests fate (choose o) n more = optionTests o more
 
-abbrev pub journalTests : List ℕ → List ℕ → List Test
-journalTests w r =
-    record { passes = goodHeader w; number = 31 } ∷ record { passes = leb (used w + length r) (length w); number = 32 } ∷ []
+-- those of the journal, for a record of so many words
+abbrev pub journalTests : List ℕ → ℕ → List Test
+journalTests w size =
+    record { passes = goodHeader w; number = 31 } ∷ record { passes = leb (used w + size) (length w); number = 32 } ∷ []
 
 unfoldable pub settle : Answer → State → State → Step
 settle done new old = record { state = new; answer = done }
@@ -203,7 +204,7 @@ doPlain fate c s =
     settle
     (verdict
     (record { passes = wellFormed (s .net); number = 23 }
-    ∷ tests fate c (s .net) (journalTests (s .words) (undoWords c (s .net)))))
+    ∷ tests fate c (s .net) (journalTests (s .words) (length (undoWords c (s .net))))))
     (after fate c s)
     s
 

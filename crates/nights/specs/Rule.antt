@@ -7,7 +7,7 @@ use mathlib.Core.Bool.{Bool, true, _&&_, not}
 use lib.ListN.{length, drop, take}
 use lib.Dec.{leb}
 use Rattle.nights.specs.Record.{Record}
-use Rattle.nights.specs.Net.{Options, Network, fresh, keep, insertAll, rising, Fate, dues, lostBy, replayedBy, delayedBy, Draws, Plain, send, take as takes, choose, copies, effect}
+use Rattle.nights.specs.Net.{Options, Network, fresh, keep, rising, Fate, dues, lostBy, replayedBy, delayedBy, Draws, Plain, send, take as takes, choose, copies, effect}
 use Rattle.nights.specs.Journal.{Answer, done, refused, Call, plain, rewind, mark, State, undoWords, step}
 
 -- THE STANDING LIST, from the calls and their answers
@@ -89,10 +89,6 @@ waits m = untaken (m .later) (m .copy)
 abbrev pub gone : Made → Bool
 gone m = not (untaken (m .later) (m .copy))
 
--- sorted by due tick, then by seq
-abbrev pub sorted : List Record → List Record
-sorted l = insertAll l []
-
 unfoldable pub total : (Fate → ℕ) → List Fate → ℕ
 total f [] = 0
 total f (x ∷ xs) = f x + total f xs
@@ -119,9 +115,22 @@ module _ (fate : Draws) where
   made o q [] = []
   made o q (c ∷ later) = map (followed later) (makes o q c) ++ made (optionsBy o c) (q + length (makes o q c)) later
 
+-- The pending list with no sorting: it rises strictly in (due, seq), its members are the copies that wait, no more and no fewer,
+-- and a copy's seq is its place in the order of making. Two lists of which this holds are equal (proofs/Unique).
+unfoldable pub from : ℕ → ℕ → List ℕ
+from a zero = []
+from a (suc n) = a ∷ from (a + 1) n
+
+pub record Exactly (ms : List Made) (l : List Record) : Type 0 where
+  pub rises : rising l ≡ true
+  pub all : (m : Made) → Member m ms → waits m ≡ true → Member (m .copy) l
+  pub only : (r : Record) → Member r l → (m : Made) × Member m ms × (waits m ≡ true) × (m .copy ≡ r)
+  pub numbers : map seqOf ms ≡ from 1 (length ms)
+
 module _ (fate : Draws) (o : Options) (st : List Plain) where
-  abbrev pub pendingRule : List Record
-  pendingRule = sorted (map copyOf (keep waits (made fate o 0 st)))
+  -- so many copies wait, and so many are gone
+  abbrev pub waitingRule : ℕ
+  waitingRule = length (keep waits (made fate o 0 st))
 
   abbrev pub deliveredRule : ℕ
   deliveredRule = length (keep gone (made fate o 0 st))
@@ -138,29 +147,22 @@ module _ (fate : Draws) (o : Options) (st : List Plain) where
   abbrev pub delayedRule : ℕ
   delayedRule = total delayedBy (fates fate o st)
 
-  -- the network is what the standing list says
-  pub record Told (n : Network) : Type 0 where
+  -- the options and the counters are what the standing list says
+  pub record Counted (n : Network) : Type 0 where
     pub options : n .options ≡ optionsRule o st
-    pub pending : n .pending ≡ pendingRule
     pub seq : n .seq ≡ length (made fate o 0 st)
     pub sent : n .sent ≡ sentRule
     pub delivered : n .delivered ≡ deliveredRule
     pub lost : n .lost ≡ lostRule
     pub replayed : n .replayed ≡ replayedRule
     pub delayed : n .delayed ≡ delayedRule
-    pub balance : sentRule + replayedRule ≡ deliveredRule + lostRule + length pendingRule
+    pub waiting : length (n .pending) ≡ waitingRule
+    pub balance : sentRule + replayedRule ≡ deliveredRule + lostRule + waitingRule
 
--- The pending list once more, with no sorting: it rises strictly in (due, seq), its members are the copies that wait, no more and
--- no fewer, and a copy's seq is its place in the order of making.
-unfoldable pub from : ℕ → ℕ → List ℕ
-from a zero = []
-from a (suc n) = a ∷ from (a + 1) n
-
-pub record Exactly (ms : List Made) (l : List Record) : Type 0 where
-  pub rises : rising l ≡ true
-  pub all : (m : Made) → Member m ms → waits m ≡ true → Member (m .copy) l
-  pub only : (r : Record) → Member r l → (m : Made) × Member m ms × (waits m ≡ true) × (m .copy ≡ r)
-  pub numbers : map seqOf ms ≡ from 1 (length ms)
+  -- and the whole network is
+  pub record Told (n : Network) : Type 0 where
+    pub counted : Counted n
+    pub pending : Exactly (made fate o 0 st) (n .pending)
 
 -- A RUN: the calls one after the other, each on what the last one left
 module _ (fate : Draws) where
@@ -219,7 +221,6 @@ module _ (fate : Draws) (o : Options) (rest : List ℕ) where
   pub record Claim (cs : List Call) : Type 0 where
     -- the network is what the standing list says
     pub told : Told fate o (stands cs) (ran cs .net)
-    pub exactly : Exactly (made fate o 0 (stands cs)) (ran cs .net .pending)
     -- it is the fold of the standing list
     pub folds : ran cs .net ≡ replay fate o (stack cs)
     -- a rewind as far as the last mark is accepted, and puts back the network of an earlier time, field for field

@@ -1,0 +1,263 @@
+// The journal of a network's calls, in words that the host lends: word 0 says how many calls it holds, word 1 how many words are
+// used, and behind them stands a record for each call, enough to undo it. A journaled call is the plain call with its record; a
+// rewind goes back over the last k; a mark forgets them, so that no rewind goes past it. Any words may be lent.
+use network::Counted;
+use network::Network;
+use network::NetworkOptions;
+use network::Next;
+use network::Refusal;
+use network::SendAnswer;
+use network::Sent;
+use network::Settled;
+use network::Taken;
+ghost use mathlib.Core.Path.{_≡_};
+ghost use mathlib.Core.Bool.{true};
+ghost use mathlib.Core.List.{[]};
+ghost use Prim.Native.Nat.{_+_, _≤_};
+ghost use lib.ListN.{length};
+ghost use Rattle.nights.specs.Record.{wordsOf};
+ghost use Rattle.nights.specs.Net.{keep, isDue, bit, goodOptions};
+ghost use Rattle.nights.specs.Draws.{decided};
+ghost use Rattle.nights.specs.Journal.{used, overwrite, logged, goodHeader, verdict, journalTests, mark, rewind, refused};
+ghost use Rattle.network.specs.Answers.{number, settledOf, countedOf, sentOf, counting, sending};
+ghost use Rattle.network.specs.Forms.{plainOf};
+ghost use Rattle.network.specs.Calls.{written};
+ghost use Rattle.network.specs.Options.{plainOptions};
+ghost use Rattle.journal.specs.Calls.{sends, takes, chooses, answerOf, wordsAfter, networkAfter, markAnswer, markWords, optionsRecord};
+
+// The words of a take's own output, beside which its record's sort and length fit.
+const TAKE_ROOM: usize = 1026;
+
+// ---- The words
+
+// Whether words 0 and 1 can head a journal of so many words: over whole numbers, twice the calls are at most the words used by them.
+fn header_good(journal: &[u64]) -> bool
+    ensures { λ b. ⌜ b ≡ goodHeader (now (journal .entry)) ⌝ }
+{
+    if journal.len() < undo::HEADER {
+        return false;
+    }
+    let used = journal[1];
+    if used < undo::HEADER as u64 {
+        return false;
+    }
+    if (journal.len() as u64) < used {
+        return false;
+    }
+    journal[0] <= (used - undo::HEADER as u64) / 2
+}
+
+// What a journal answers to a record of so many words.
+fn room_for(journal: &[u64], size: usize) -> Settled
+    ensures { λ r. ⌜ settledOf r ≡ verdict (journalTests (now (journal .entry)) size) ⌝ }
+{
+    if !header_good(journal) {
+        return Settled::Refused(Refusal::BadJournal);
+    }
+    if journal.len() - (journal[1] as usize) < size {
+        return Settled::Refused(Refusal::NoJournalRoom);
+    }
+    Settled::Done
+}
+
+// Words written over those that stand from a place on.
+fn write_at(words: &mut [u64], at: usize, what: &[u64])
+    requires { ⌜ at + length (now what) ≤ length (now words) ⌝ }
+    ensures { λ _. ⌜ now (words .exit) ≡ overwrite (now (words .entry)) at (now (what .entry)) ⌝ }
+{
+    let mut i: usize = 0;
+    while i < what.len() {
+        let x = what[i];
+        words[at + i] = x;
+        i += 1;
+    }
+}
+
+// A record written behind the last one, and the header that counts it.
+fn append(journal: &mut [u64], what: &[u64])
+    requires { ⌜ (goodHeader (now journal) ≡ true) × (used (now journal) + length (now what) ≤ length (now journal)) ⌝ }
+    ensures { λ _. ⌜ now (journal .exit) ≡ logged (now (journal .entry)) (now (what .entry)) ⌝ }
+{
+    let used = journal[1] as usize;
+    write_at(journal, used, what);
+    journal[0] = journal[0] + 1;
+    journal[1] = (used + what.len()) as u64;
+}
+
+// ---- The calls
+
+// Forgets the calls held, so that none of them can be undone.
+pub fn mark(journal: &mut [u64]) -> Settled
+    ensures answer { λ r. ⌜ settledOf r ≡ markAnswer (now (journal .entry)) ⌝ }
+    ensures journal { λ _. ⌜ now (journal .exit) ≡ markWords (now (journal .entry)) ⌝ }
+{
+    if journal.len() < undo::HEADER {
+        return Settled::Refused(Refusal::NoJournalRoom);
+    }
+    journal[0] = 0;
+    journal[1] = undo::HEADER as u64;
+    Settled::Done
+}
+
+// A change of the options.
+pub fn set_options(network: Network, options: NetworkOptions, journal: &mut [u64]) -> Next
+    ensures network { λ t. ⌜ t .network ≡ networkAfter (chooses (plainOptions options)) network (now (journal .entry)) ⌝ }
+    ensures answer { λ t. ⌜ settledOf (t .answer) ≡ answerOf (chooses (plainOptions options)) network (now (journal .entry)) ⌝ }
+    ensures journal { λ _. ⌜ now (journal .exit) ≡ wordsAfter (chooses (plainOptions options)) network (now (journal .entry)) ⌝ }
+{
+    let next = network.set_options(options);
+    let answer = next.answer;
+    let Settled::Done = answer else {
+        return next;
+    };
+    let room = room_for(journal, undo::OPTIONS_WORDS);
+    let Settled::Done = room else {
+        return Next {
+            network: network,
+            answer: room,
+        };
+    };
+    let record = options_record(network.options);
+    append(journal, &record[..]);
+    next
+}
+
+// The record of a change of options, from the good options before it.
+fn options_record(old: NetworkOptions) -> [u64; undo::OPTIONS_WORDS]
+    requires { ⌜ goodOptions (plainOptions old) ≡ true ⌝ }
+    ensures { λ r. ⌜ r ≡ optionsRecord (plainOptions old) ⌝ }
+{
+    [
+        chance::word_of(old.packet_loss_probability),
+        chance::word_of(old.packet_replay_probability),
+        old.one_way_delay_min,
+        old.one_way_delay_mean,
+        flag_word(old.fault_client_messages),
+        undo::OPTIONS,
+        undo::OPTIONS_WORDS as u64,
+    ]
+}
+
+fn flag_word(flag: bool) -> u64
+    ensures { λ r. ⌜ r ≡ bit flag ⌝ }
+{
+    if flag { 1 } else { 0 }
+}
+
+// A send.
+pub fn send(
+    network: Network,
+    now: u64,
+    sort: u64,
+    origin: u64,
+    to: u64,
+    kind: u64,
+    handle: u64,
+    draws: &[u64],
+    extras: &[u64],
+    journal: &mut [u64],
+) -> Sent
+    ensures network { λ t. ⌜ t .network ≡ networkAfter (sends now sort origin to kind handle (draws .entry .now) (extras .entry .now)) network (journal .entry .now) ⌝ }
+    ensures answer { λ t. ⌜ sentOf (t .answer) ≡ sending (answerOf (sends now sort origin to kind handle (draws .entry .now) (extras .entry .now)) network (journal .entry .now)) (decided (plainOf network .options) now kind (draws .entry .now) (extras .entry .now)) ⌝ }
+    ensures journal { λ _. ⌜ journal .exit .now ≡ wordsAfter (sends now sort origin to kind handle (draws .entry .now) (extras .entry .now)) network (journal .entry .now) ⌝ }
+{
+    let sent = network.send(now, sort, origin, to, kind, handle, draws, extras);
+    let answer = sent.answer;
+    let SendAnswer::Accepted {
+        lost: _,
+        replayed: _,
+        draws: _,
+        extras: _,
+    } = answer
+    else {
+        return sent;
+    };
+    let Settled::Refused(refusal) = room_for(journal, undo::SEND_WORDS) else {
+        let record = [
+            network.seq,
+            network.lost,
+            network.replayed,
+            network.delayed,
+            undo::SEND,
+            undo::SEND_WORDS as u64,
+        ];
+        append(journal, &record[..]);
+        return sent;
+    };
+    Sent {
+        network: network,
+        answer: SendAnswer::Refused(refusal),
+    }
+}
+
+// A take. What is due is taken to words of our own first: the lent output and the journal change only once both are known to have
+// room.
+pub fn take_due(network: Network, now: u64, out: &mut [u64], journal: &mut [u64]) -> Taken
+    ensures network { λ t. ⌜ t .network ≡ networkAfter (takes now (length (out .entry .now))) network (journal .entry .now) ⌝ }
+    ensures answer { λ t. ⌜ countedOf (t .answer) ≡ counting (answerOf (takes now (length (out .entry .now))) network (journal .entry .now)) (length (keep (isDue now) (plainOf network .pending))) ⌝ }
+    ensures out { λ _. ⌜ out .exit .now ≡ written (answerOf (takes now (length (out .entry .now))) network (journal .entry .now)) (wordsOf (keep (isDue now) (plainOf network .pending))) (out .entry .now) ⌝ }
+    ensures journal { λ _. ⌜ journal .exit .now ≡ wordsAfter (takes now (length (out .entry .now))) network (journal .entry .now) ⌝ }
+{
+    let mut record = [0u64; TAKE_ROOM];
+    let taken = network.take_due(now, &mut record[..queue::WORDS]);
+    let answer = taken.answer;
+    let Counted::Records(t) = answer else {
+        return taken;
+    };
+    let size = t * queue::RECORD_SIZE;
+    if out.len() < size {
+        return Taken {
+            network: network,
+            answer: Counted::Refused(Refusal::ShortOutput),
+        };
+    }
+    let Settled::Refused(refusal) = room_for(journal, size + undo::TAKE_WORDS) else {
+        write_at(out, 0, &record[..size]);
+        record[size] = undo::TAKE;
+        record[size + 1] = (size + undo::TAKE_WORDS) as u64;
+        append(journal, &record[..size + undo::TAKE_WORDS]);
+        return taken;
+    };
+    Taken {
+        network: network,
+        answer: Counted::Refused(refusal),
+    }
+}
+
+// Goes back over the last k calls held.
+pub fn rewind(network: Network, k: u64, journal: &mut [u64]) -> Next
+    ensures network { λ t. ⌜ t .network ≡ networkAfter (rewind k) network (now (journal .entry)) ⌝ }
+    ensures answer { λ t. ⌜ settledOf (t .answer) ≡ answerOf (rewind k) network (now (journal .entry)) ⌝ }
+    ensures journal { λ _. ⌜ now (journal .exit) ≡ wordsAfter (rewind k) network (now (journal .entry)) ⌝ }
+{
+    let Counted::Records(_) = network.pending() else {
+        return refused(network, Refusal::IllFormed);
+    };
+    if !header_good(journal) {
+        return refused(network, Refusal::BadJournal);
+    }
+    let held = journal[0];
+    if held < k {
+        return refused(network, Refusal::TooFarBack);
+    }
+    let end = journal[1] as usize;
+    let before = undo::undo_all(network, k, journal, end);
+    if !before.fits {
+        return refused(network, Refusal::BadJournal);
+    }
+    journal[0] = held - k;
+    journal[1] = before.start as u64;
+    Next {
+        network: before.network,
+        answer: Settled::Done,
+    }
+}
+
+fn refused(network: Network, refusal: Refusal) -> Next
+    ensures { λ t. ⌜ (t .network ≡ network) × (settledOf (t .answer) ≡ refused (number refusal)) ⌝ }
+{
+    Next {
+        network: network,
+        answer: Settled::Refused(refusal),
+    }
+}
