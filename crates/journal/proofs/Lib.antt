@@ -1,1 +1,2 @@
 -- Laws that belong to no one function, and the theorem.
+pub mod Night

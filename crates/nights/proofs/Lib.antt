@@ -9,4 +9,5 @@ pub mod Unique
 pub mod Back
 pub mod Claim
 pub mod Kept
+pub mod Steps
 pub mod Worked
