@@ -11,3 +11,4 @@ pub mod Claim
 pub mod Kept
 pub mod Steps
 pub mod Worked
+pub mod Instances
