@@ -1,1 +1,5 @@
 -- Laws that belong to no one function.
+pub mod Keeping
+pub mod PuttingBack
+pub mod Telling
+pub mod Leaving
