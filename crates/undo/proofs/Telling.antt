@@ -11,18 +11,47 @@ use lib.ListN.{length, getD}
 use Rattle.chance.specs.Probability.{goodWord}
 use Rattle.nights.specs.Record.{recs}
 use Rattle.nights.specs.Net.{capacity, Network as Plain, goodOptions, wellFormed}
-use Rattle.nights.specs.Journal.{Undone as Told, misfit, undone, unsend, untake, unchoose, undoAs, undoOne, checked}
+use Rattle.nights.specs.Journal.{done, refused, Undone as Told, misfit, undone, unsend, untake, unchoose, undoAs, undoOne, checked}
 use Rattle.network.specs.declared.Network.{Network}
 use Rattle.network.specs.Forms.{isFormed}
+use Rattle.network.specs.Answers.{Count, counting}
+use Rattle.network.specs.Calls.{formAnswer}
+use Rattle.network.proofs.Calling.{form-ill, form-well}
 use Rattle.network.proofs.WholeForm.{first, second}
 use Rattle.undo.specs.declared.Undone.{Undone}
-use Rattle.undo.specs.Undone.{undoneOf}
+use Rattle.undo.specs.Undone.{undoneOf, sealedOf}
 
 -- the code's misfit tells a misfit, and hands back the network that came
 pub told-misfit : {s : Network} {p : Told} (u : Undone) → isFormed s ≡ true → (u .fits ≡ false) × (u .network ≡ s) → p ≡ misfit
     → (undoneOf u ≡ p) × (isFormed (u .network) ≡ true)
 unfolding undoneOf
 told-misfit u f h e = (rw (h .0, e), rw (h .1) f)
+
+-- what `pending` answers tells whether a network is well formed
+module _ (s : Network) (n k : ℕ) where
+  pub ill-told : counting (formAnswer s) n ≡ record { answer = refused k; records = 0 } → isFormed s ≡ false
+  unfolding counting
+  ill-told e = go (isFormed s) refl
+    where
+      go : (b : Bool) → isFormed s ≡ b → b ≡ false
+      go true h = let a = ap (λ (r : Count). r .answer) (rw (form-well s h) at e) in let z : _≡_ {A = ℕ} 0 1 = cc in absurd (omega arith)
+      go false h = refl
+
+  pub well-told : counting (formAnswer s) n ≡ record { answer = done; records = k } → isFormed s ≡ true
+  unfolding counting
+  well-told e = go (isFormed s) refl
+    where
+      go : (b : Bool) → isFormed s ≡ b → b ≡ true
+      go true h = refl
+      go false h = let a = ap (λ (r : Count). r .answer) (rw (form-ill s h) at e) in let z : _≡_ {A = ℕ} 0 1 = cc in absurd (omega arith)
+
+pub sealed-misfit : (s : Network) (b : ℕ) → isFormed s ≡ false → sealedOf s b ≡ misfit
+unfolding sealedOf
+sealed-misfit s b e = rw e
+
+pub sealed-fits : (s : Network) (b : ℕ) → isFormed s ≡ true → undoneOf (record { fits = true; network = s; start = b }) ≡ sealedOf s b
+unfolding undoneOf sealedOf
+sealed-fits s b e = rw e
 
 module _ (z b : ℕ) (n : Plain) (w : List ℕ) (e : ℕ) where
   -- ---- a send
