@@ -3,9 +3,9 @@
 use Prim.Native.Nat.{ℕ, _+_, _-_, _*_, _≤_}
 use mathlib.Core.Path.{_≡_, refl, sym, ap, _∙_}
 use mathlib.Core.List.{List, _++_}
-use mathlib.Core.Bool.{Bool, true, false, cond, _&&_}
+use mathlib.Core.Bool.{Bool, true, false, _&&_}
 use native.Mathlib.Omega.{arith}
-use borrow.Author.Tests.{le-leb, leb-true}
+use borrow.Author.Tests.{le-leb}
 use lib.Dec.{leb}
 use lib.ListN.{length, drop, replicate, replicate-append-replicate}
 use lib.Seq.{drop-at}
@@ -22,7 +22,6 @@ use Rattle.queue.proofs.Inserting.{length-recs}
 use Rattle.queue.proofs.Packing.{unpacked, repacked, packed-zeros, packed-insertAll}
 use Rattle.network.specs.declared.NetworkOptions.{NetworkOptions}
 use Rattle.network.specs.declared.Network.{Network}
-use Rattle.network.specs.Options.{plainOptions}
 use Rattle.network.specs.Forms.{plainOf, isFormed}
 use Rattle.network.proofs.Maps.{small}
 use Rattle.undo.specs.Undone.{sealedOf, upTo}

@@ -3,3 +3,4 @@ pub mod Keeping
 pub mod PuttingBack
 pub mod Telling
 pub mod Leaving
+pub mod Undoing

@@ -6,10 +6,6 @@ use native.Mathlib.Omega.{arith}
 use Rattle.undo.proofs.Keeping.{Moved, start, same-size, pass-over, move-up}
 use Rattle.undo.proofs.keep_front.Statement.{statement}
 use Rattle.undo.proofs.keep_front.Tie as tie
-use Rattle.undo.proofs.keep_front.Reads as reads
-use Rattle.undo.proofs.keep_front.Lts as lts
-use Rattle.queue.proofs.put.Reads as put-reads
-use Rattle.undo.proofs.record_of.Reads as record-of-reads
 
 abbrev Inv-loop : tie.InvT-loop
 Inv-loop w₀ n last m₀ i₀ w m i = (i ≤ n) × Moved w₀ w last m i

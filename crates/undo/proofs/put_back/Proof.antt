@@ -4,10 +4,6 @@ use native.Mathlib.Omega.{arith}
 use Rattle.undo.proofs.PuttingBack.{Putting, start, put-one, all-put}
 use Rattle.undo.proofs.put_back.Statement.{statement}
 use Rattle.undo.proofs.put_back.Tie as tie
-use Rattle.undo.proofs.put_back.Reads as reads
-use Rattle.undo.proofs.put_back.Lts as lts
-use Rattle.queue.proofs.insert_in.Reads as insert-in-reads
-use Rattle.undo.proofs.record_at.Reads as record-at-reads
 
 abbrev Inv-loop : tie.InvT-loop
 Inv-loop w₀ n journal b t i₀ w i = Putting w₀ n journal b t w i

@@ -9,12 +9,6 @@ use Rattle.undo.proofs.Telling.{told-misfit, options-size, bad-flag, ba
 use Rattle.undo.proofs.Leaving.{options-leave}
 use Rattle.undo.proofs.undo_options.Statement.{statement}
 use Rattle.undo.proofs.undo_options.Tie as tie
-use Rattle.undo.proofs.undo_options.Reads as reads
-use Rattle.undo.proofs.undo_options.Lts as lts
-use Rattle.chance.proofs.good_word.Reads as good-word-reads
-use Rattle.chance.proofs.of_word.Reads as of-word-reads
-use Rattle.undo.proofs.misfit.Reads as misfit-reads
-use Rattle.undo.proofs.sealed.Reads as sealed-reads
 
 long : (c : tie.Start) → length (c .args .network .words) ≡ 1024
 long c = search needs

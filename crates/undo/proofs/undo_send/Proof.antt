@@ -8,11 +8,6 @@ use Rattle.undo.proofs.Telling.{told-misfit, send-size, none-sent, send
 use Rattle.undo.proofs.Leaving.{send-leaves}
 use Rattle.undo.proofs.undo_send.Statement.{statement}
 use Rattle.undo.proofs.undo_send.Tie as tie
-use Rattle.undo.proofs.undo_send.Reads as reads
-use Rattle.undo.proofs.undo_send.Lts as lts
-use Rattle.undo.proofs.drop_above.Reads as drop-above-reads
-use Rattle.undo.proofs.misfit.Reads as misfit-reads
-use Rattle.undo.proofs.sealed.Reads as sealed-reads
 
 long : (c : tie.Start) → length (c .args .network .words) ≡ 1024
 long c = search needs

@@ -9,11 +9,6 @@ use Rattle.undo.proofs.Telling.{told-misfit, take-size, few-delivered, 
 use Rattle.undo.proofs.Leaving.{take-leaves}
 use Rattle.undo.proofs.undo_take.Statement.{statement}
 use Rattle.undo.proofs.undo_take.Tie as tie
-use Rattle.undo.proofs.undo_take.Reads as reads
-use Rattle.undo.proofs.undo_take.Lts as lts
-use Rattle.undo.proofs.misfit.Reads as misfit-reads
-use Rattle.undo.proofs.put_back.Reads as put-back-reads
-use Rattle.undo.proofs.sealed.Reads as sealed-reads
 
 long : (c : tie.Start) → length (c .args .network .words) ≡ 1024
 long c = search needs
