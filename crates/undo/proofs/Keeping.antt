@@ -102,7 +102,7 @@ module _ (v w : List ℕ) (last m i : ℕ) (inv : Moved v w last m i) where
       )
 
   one-more : recs v 0 (i + 1) ≡ recs v 0 i ++ (recordAt v (i * 8) ∷ [])
-  one-more = let z : 0 + i * 8 ≡ i * 8 = omega arith in rw add-one (rw z at (recs-snoc v 0 i))
+  one-more = let z : 0 + i * 8 ≡ i * 8 = omega arith in rw (add-one i) (rw z at (recs-snoc v 0 i))
 
   module _ (x : Record) (e : x ≡ recordAt w (i * 8)) where
     is-came : x ≡ recordAt v (i * 8)

@@ -80,9 +80,7 @@ module _ (s : Network) (f : isFormed s ≡ true) (long : length (s .words) ≡ 1
     unfolding packed
     unsent-words =
         let z : (s .pending - m) * 8 + (1024 - 8 * s .pending) ≡ 1024 - 8 * length (keep (upTo q) held) = omega (arith, few, c, small s f) in
-        e
-        ∙ ap (λ (x : List ℕ). wordsOf (keep (upTo q) held) ++ x)
-        (rw behind (replicate-append-replicate ((s .pending - m) * 8) (1024 - 8 * s .pending) 0 ∙ ap (λ (k : ℕ). replicate {A = ℕ} k 0) z))
+        rw (e, behind, replicate-append-replicate {A = ℕ} ((s .pending - m) * 8) (1024 - 8 * s .pending) 0, z)
 
     abbrev unsent : Network
     unsent =

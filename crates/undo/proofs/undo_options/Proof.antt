@@ -1,10 +1,11 @@
 -- `undo::undo_options` meets its contract: words that are no good probability make no well-formed network. Assumes nothing.
+use Prim.Native.Nat.{_+_, _-_, _≤_}
 use mathlib.Core.Path.{_≡_, sym, _∙_}
 use native.Mathlib.Omega.{arith}
 use borrow.Author.Needs.{needs}
 use borrow.Author.Tests.{not-true, not-false}
 use denote.Floats.{passes}
-use lib.ListN.{length}
+use lib.ListN.{length, getD}
 use Rattle.undo.proofs.Telling.{told-misfit, options-size, bad-flag, bad-loss, bad-replay, options-fit}
 use Rattle.undo.proofs.Leaving.{options-leave}
 use Rattle.undo.proofs.undo_options.Statement.{statement}
@@ -12,6 +13,16 @@ use Rattle.undo.proofs.undo_options.Tie as tie
 
 long : (c : tie.Start) → length (c .args .network .words) ≡ 1024
 long c = search needs
+
+-- where the flag was tested
+seven : (c : tie.Else2) → c .before .before .before .before .args .end - c .before .before .before .before .args .start ≡ 7
+seven c = omega arith
+
+nine : (c : tie.Else2) → 9 ≤ c .before .before .before .before .args .end
+nine c = omega arith
+
+small-flag : (c : tie.Else2) → getD (c .before .before .before .before .args .journal .now) (c .before .before .before .before .args .start + 4) 0 ≤ 1
+small-flag c = omega (arith, c .if2 .left)
 
 sub-if1 : tie.Need-sub-if1
 sub-if1 c = search needs
@@ -37,7 +48,8 @@ misfit-requires-2 c κs = search needs
 
 returns-2 : tie.Need-returns-2
 returns-2 c =
-    told-misfit (c .misfit2 .result) (c .before .before .before .before .before .pre .0) (c .misfit2 .ensures) (bad-flag _ _ _ _ _ (c .before .if2 .taken))
+    told-misfit (c .misfit2 .result) (c .before .before .before .before .before .pre .0) (c .misfit2 .ensures)
+    (bad-flag _ _ _ _ _ (omega (arith, c .before .if2 .taken)))
 
 mul-loss : tie.Need-mul-loss
 mul-loss c = search needs
@@ -53,8 +65,9 @@ misfit-requires-3 c κs = search needs
 
 returns-3 : tie.Need-returns-3
 returns-3 c =
-    told-misfit (c .misfit3 .result) (c .before .before .before .before .before .before .before .before .pre .0) (c .misfit3 .ensures)
-    (bad-loss _ _ _ _ _ (sym (c .before .before .good-word .ensures) ∙ not-true _ (c .before .if3 .taken)) (c .before .before .before .before .before .before .if1 .left) (omega arith) (c .before .before .before .before .if2 .left))
+    let o = c .before .before .before .before in
+    told-misfit (c .misfit3 .result) (o .before .before .before .before .pre .0) (c .misfit3 .ensures)
+    (bad-loss _ _ _ _ _ (sym (c .before .before .good-word .ensures) ∙ not-true _ (c .before .if3 .taken)) (seven o) (nine o) (small-flag o))
 
 add-replay : tie.Need-add-replay
 add-replay c = search needs
@@ -73,8 +86,9 @@ misfit-requires-4 c κs = search needs
 
 returns-4 : tie.Need-returns-4
 returns-4 c =
-    told-misfit (c .misfit4 .result) (c .before .before .before .before .before .before .before .before .before .before .before .pre .0) (c .misfit4 .ensures)
-    (bad-replay _ _ _ _ _ (sym (c .before .before .good-word2 .ensures) ∙ not-true _ (c .before .if4 .taken)) (c .before .before .before .before .before .before .before .before .before .if1 .left) (omega arith) (c .before .before .before .before .before .before .before .if2 .left))
+    let o = c .before .before .before .before .before .before .before in
+    told-misfit (c .misfit4 .result) (o .before .before .before .before .pre .0) (c .misfit4 .ensures)
+    (bad-replay _ _ _ _ _ (sym (c .before .before .good-word2 .ensures) ∙ not-true _ (c .before .if4 .taken)) (seven o) (nine o) (small-flag o))
 
 of-word-requires : tie.Need-of-word-requires
 of-word-requires c κs = passes _ (sym (c .before .before .before .before .good-word .ensures) ∙ not-false _ (c .before .before .before .if3 .left))
@@ -105,10 +119,12 @@ sealed-requires c κs = search needs
 
 returns-5 : tie.Need-returns-5
 returns-5 c =
-    let a = c .before .before .before .before .before .before .before .before .before .before .before .before .before .before .before in (
+    let o = c .before .before .before .before .before .before .before .before .before .before .before in
+    let a = o .before .before .before .before in (
       c .sealed .ensures .0
-          ∙ (options-leave (a .args .network) (a .pre .0) (long a) _ _ (a .args .start) (rw (c .before .before .before .before .of-word .ensures .1, c .before .before .before .of-word2 .ensures .1))
-          ∙ options-fit _ _ _ _ _ (c .before .before .before .before .before .before .before .before .before .before .before .before .before .if1 .left) (omega (arith, a .pre, c .before .before .before .before .before .before .before .before .before .before .before .before .before .if1 .left)) (c .before .before .before .before .before .before .before .before .before .before .before .if2 .left)),
+          ∙ (options-leave (a .args .network) (a .pre .0) (long a) _ _ (a .args .start)
+          (rw (c .before .before .before .before .of-word .ensures .1, c .before .before .before .of-word2 .ensures .1))
+          ∙ options-fit _ _ _ _ _ (seven o) (nine o) (small-flag o)),
       c .sealed .ensures .1,
     )
 
