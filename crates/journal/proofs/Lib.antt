@@ -1,1 +1,3 @@
--- Laws that belong to no one function, and the theorem.
+-- Laws that belong to no one function.
+pub mod Words
+pub mod Journaled
