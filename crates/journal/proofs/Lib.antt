@@ -1,3 +1,4 @@
 -- Laws that belong to no one function.
 pub mod Words
 pub mod Journaled
+pub mod Takes
