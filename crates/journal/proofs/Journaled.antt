@@ -7,7 +7,7 @@ use mathlib.Core.Bool.{Bool, true, false, cond}
 use lib.ListN.{length}
 use Rattle.nights.specs.Net.{Network as Plain, Plain as Call, send, take, choose}
 use Rattle.nights.specs.Draws.{fateOf}
-use Rattle.nights.specs.Journal.{Answer, done, refused, plain, Step, logged, undoWords, Test, verdict, tests, journalTests, settle, after, doPlain, step}
+use Rattle.nights.specs.Journal.{Answer, done, refused, Call as Called, plain, Step, logged, undoWords, Test, verdict, tests, journalTests, settle, after, doPlain, step}
 use Rattle.network.specs.declared.Network.{Network}
 use Rattle.network.specs.Forms.{plainOf, isFormed}
 use Rattle.network.specs.Calls.{settling, callAnswer, callNetwork}
@@ -38,6 +38,27 @@ tests-more (send m draws extras) n more = refl
 tests-more (take now room) n more = refl
 tests-more (choose o) n more = refl
 
+-- ---- what a contract says
+
+-- of a call's network, its answer and the journal's words
+module _ (c : Called) (s : Network) (w : List ℕ) where
+  pub record Met (t : Network) (a : Answer) (v : List ℕ) : Type 0 where
+    pub network : t ≡ networkAfter c s w
+    pub answer : a ≡ answerOf c s w
+    pub words : v ≡ wordsAfter c s w
+
+  pub met-by : (p : Step) → stepOf c s w ≡ p → Met (settling (p .answer) (p .state .net) s) (p .answer) (p .state .words)
+  met-by p e =
+      record {
+        network = ap (λ (q : Step). settling (q .answer) (q .state .net) s) (sym e);
+        answer = ap (λ (q : Step). q .answer) (sym e);
+        words = ap (λ (q : Step). q .state .words) (sym e);
+      }
+
+  pub refused-by : (k : ℕ) → stepOf c s w ≡ record { state = stateOf s w; answer = refused k } → Met s (refused k) w
+  unfolding settling
+  refused-by k e = met-by _ e
+
 -- ---- the step of a plain call
 
 module _ (c : Call) (s : Network) (w : List ℕ) where
@@ -50,45 +71,27 @@ module _ (c : Call) (s : Network) (w : List ℕ) where
       (ap (λ (a : Answer). settle a (after fateOf c (stateOf s w)) (stateOf s w))
       (verdict-more (tests fateOf c (plainOf s) []) (journalTests w (length (undoWords c (plainOf s))))))
 
-  -- what the contract of a journaled call says of its network, its answer and the journal's words
-  pub record Met (t : Network) (a : Answer) (v : List ℕ) : Type 0 where
-    pub network : t ≡ networkAfter (plain c) s w
-    pub answer : a ≡ answerOf (plain c) s w
-    pub words : v ≡ wordsAfter (plain c) s w
-
-  met-by : (p : Step) → stepOf (plain c) s w ≡ p → Met (settling (p .answer) (p .state .net) s) (p .answer) (p .state .words)
-  met-by p e =
-      record {
-        network = ap (λ (q : Step). settling (q .answer) (q .state .net) s) (sym e);
-        answer = ap (λ (q : Step). q .answer) (sym e);
-        words = ap (λ (q : Step). q .state .words) (sym e);
-      }
-
-  refused-by : (k : ℕ) → stepOf (plain c) s w ≡ record { state = stateOf s w; answer = refused k } → Met s (refused k) w
-  unfolding settling
-  refused-by k e = met-by _ e
-
-  pub refused-first : (k : ℕ) → callAnswer c s ≡ refused k → Met s (refused k) w
+  pub refused-first : (k : ℕ) → callAnswer c s ≡ refused k → Met (plain c) s w s (refused k) w
   unfolding stepOf settle
-  refused-first k e = refused-by k (go (isFormed s) refl)
+  refused-first k e = refused-by (plain c) s w k (go (isFormed s) refl)
     where
       go : (b : Bool) → isFormed s ≡ b → stepOf (plain c) s w ≡ record { state = stateOf s w; answer = refused k }
       go true f = step-is f ∙ rw e
       go false f = let z : _≡_ {A = Answer} (refused 23) (refused k) = sym (call-ill s c f) ∙ e in rw (f, ← z)
 
   -- the same of what the plain call gave
-  pub refused-plain : (k : ℕ) → callAnswer c s ≡ refused k → Met (callNetwork c s) (callAnswer c s) w
+  pub refused-plain : (k : ℕ) → callAnswer c s ≡ refused k → Met (plain c) s w (callNetwork c s) (callAnswer c s) w
   refused-plain k e = rw (e, sym (stays s c k e)) (refused-first k e)
 
   module _ (e : callAnswer c s ≡ done) where
     pub refused-then : (k size : ℕ) → size ≡ length (undoWords c (plainOf s)) → verdict (journalTests w size) ≡ refused k
-        → Met s (refused k) w
+        → Met (plain c) s w s (refused k) w
     unfolding settle
-    refused-then k size n j = refused-by k (step-is (was-formed c s e) ∙ rw (e, ← n, j))
+    refused-then k size n j = refused-by (plain c) s w k (step-is (was-formed c s e) ∙ rw (e, ← n, j))
 
     pub accepted : (r : List ℕ) → r ≡ undoWords c (plainOf s) → verdict (journalTests w (length r)) ≡ done
-        → Met (callNetwork c s) (callAnswer c s) (logged w r)
+        → Met (plain c) s w (callNetwork c s) (callAnswer c s) (logged w r)
     unfolding settle settling
     accepted r n j =
         rw (sym (follows s c e), e, n)
-        (met-by (record { state = after fateOf c (stateOf s w); answer = done }) (step-is (was-formed c s e) ∙ rw (e, ← n, j)))
+        (met-by (plain c) s w (record { state = after fateOf c (stateOf s w); answer = done }) (step-is (was-formed c s e) ∙ rw (e, ← n, j)))

@@ -2,3 +2,4 @@
 pub mod Words
 pub mod Journaled
 pub mod Takes
+pub mod Rewinds
