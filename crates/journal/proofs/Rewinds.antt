@@ -5,9 +5,9 @@ use mathlib.Core.List.{List, _∷_}
 use mathlib.Core.Bool.{true, false}
 use borrow.Author.Tests.{le-leb, lt-leb}
 use lib.ListN.{length, drop}
-use Rattle.nights.specs.Journal.{done, refused, rewind, held, used, header, goodHeader, misfit, undone, undoAll, rewound, doRewind, step}
+use Rattle.nights.specs.Journal.{done, refused, rewind, held, used, header, goodHeader, undoAll, rewound, doRewind, step}
 use Rattle.network.specs.declared.Network.{Network}
-use Rattle.network.specs.Forms.{plainOf, structOf, isFormed}
+use Rattle.network.specs.Forms.{plainOf, isFormed}
 use Rattle.network.specs.Calls.{settling}
 use Rattle.network.proofs.OptionForms.{Held}
 use Rattle.network.proofs.Maps.{plain-formed, struct-of-plain}

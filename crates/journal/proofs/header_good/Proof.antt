@@ -1,5 +1,4 @@
 -- `journal::header_good` meets its contract: each clause in turn. Assumes nothing.
-use mathlib.Core.Path.{_≡_, sym, _∙_}
 use native.Mathlib.Omega.{arith}
 use Rattle.journal.proofs.Words.{too-short, used-low, used-high, held-told}
 use borrow.Author.Needs.{needs}

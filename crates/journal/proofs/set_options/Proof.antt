@@ -4,7 +4,7 @@ use mathlib.Core.List.{List}
 use Prim.Native.Nat.{ℕ}
 use lib.ListN.{length}
 use Rattle.nights.specs.Net.{Plain as Call, choose}
-use Rattle.nights.specs.Journal.{done, undoWords, logged, verdict, journalTests}
+use Rattle.nights.specs.Journal.{done, undoWords, verdict, journalTests}
 use Rattle.nights.proofs.Kept.{options-good}
 use Rattle.network.specs.declared.Network.{Network}
 use Rattle.network.specs.Options.{plainOptions}

@@ -8,9 +8,8 @@ use lib.ListN.{length, take, set, length-append, length-set}
 use lib.Seq.{length-take-le}
 use Rattle.nights.specs.Record.{Record, wordsOf}
 use Rattle.nights.specs.Net.{Plain as Call, take as takes, keep, isDue}
-use Rattle.nights.specs.Journal.{Answer, done, refused, overwrite, logged, undoWords, verdict, journalTests}
+use Rattle.nights.specs.Journal.{Answer, done, overwrite, logged, undoWords, verdict, journalTests}
 use Rattle.network.specs.declared.Network.{Network}
-use Rattle.network.specs.declared.Counted.{Counted}
 use Rattle.network.specs.Answers.{settledOf, countedOf, counting}
 use Rattle.network.specs.Forms.{plainOf}
 use Rattle.network.specs.Calls.{callAnswer, written}
