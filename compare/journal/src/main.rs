@@ -4,6 +4,7 @@
 //! to which the fixed sample is written instead of comparing. Ends with status 0 if there is no difference
 //! and every outcome was met.
 
+mod corners;
 mod fate;
 mod forged;
 mod inputs;
@@ -39,10 +40,13 @@ fn main() -> ExitCode {
 fn compare(seed: u64, count: u64) -> ExitCode {
     let mut lists = Lists::new("journal", "journal_cases");
     let mut draws = Draws::new(seed);
+    let mut nights = corners::nights();
     let mut over_put = 0;
-    while lists.written() < count {
+    while lists.written() < count || !nights.is_empty() {
         let most = [60, 60, 200, 600, 2_000][draws.below(5)];
-        let night = inputs::night(most, &mut draws);
+        let night = nights
+            .pop()
+            .unwrap_or_else(|| inputs::night(most, &mut draws));
         over_put += night.over_put;
         if let Err(code) = lists.add(night.calls) {
             return code;
@@ -54,10 +58,16 @@ fn compare(seed: u64, count: u64) -> ExitCode {
     )
 }
 
-/// The fixed sample: as many random nights as fit.
+/// The fixed sample: the corners, and as many random nights as fit.
 fn sample(seed: u64) -> Vec<u8> {
     let mut draws = Draws::new(seed);
-    lists::sample(SAMPLE_ROOM, || {
+    let corners: Vec<_> = corners::nights()
+        .into_iter()
+        .flat_map(|night| night.calls)
+        .collect();
+    let mut list = lists::bytes(&corners);
+    list.extend(lists::sample(SAMPLE_ROOM, || {
         inputs::night(SAMPLE_CALLS, &mut draws).calls
-    })
+    }));
+    list
 }
