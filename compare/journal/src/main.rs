@@ -41,12 +41,13 @@ fn compare(seed: u64, count: u64) -> ExitCode {
     let mut lists = Lists::new("journal", "journal_cases");
     let mut draws = Draws::new(seed);
     let mut nights = corners::nights();
-    let mut over_put = 0;
+    let (mut told, mut over_put) = (0, 0);
     while lists.written() < count || !nights.is_empty() {
         let most = [60, 60, 200, 600, 2_000][draws.below(5)];
         let night = nights
             .pop()
             .unwrap_or_else(|| inputs::night(most, &mut draws));
+        told += night.told;
         over_put += night.over_put;
         if let Err(code) = lists.add(night.calls) {
             return code;
@@ -54,7 +55,7 @@ fn compare(seed: u64, count: u64) -> ExitCode {
     }
     lists.end(
         seed,
-        &format!("{over_put} rewinds went over words that were put"),
+        &format!("{told} by the standing calls; {over_put} rewinds went over words that were put"),
     )
 }
 

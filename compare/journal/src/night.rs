@@ -23,6 +23,8 @@ pub struct Night {
     is_put: Vec<bool>,
     /// Rewinds that were done and went over a word that was put.
     pub over_put: u64,
+    /// Calls of which the standing calls say what the network is then.
+    pub told: u64,
     /// The words of the network, in the places of `replays::nets`, and of the journal.
     pub network: Vec<u64>,
     pub journal: Vec<u64>,
@@ -43,6 +45,7 @@ impl Night {
             is_forged: false,
             is_put: vec![false; length],
             over_put: 0,
+            told: 0,
             network: standing::network(first, &[]).words(),
             journal: vec![PATTERN; length],
             refusal: 0,
@@ -56,6 +59,7 @@ impl Night {
 
     /// Writes a call, with its refusal or answer, the output's hash and its own words.
     fn add(&mut self, call: u64, answer: Result<[u64; 2], u64>, output: u64, rest: &[u64]) {
+        self.told += u64::from(!self.is_forged);
         self.refusal = answer.err().unwrap_or(0);
         let [first, second] = answer.unwrap_or([0, 0]);
         let network = hash_network(&self.network);

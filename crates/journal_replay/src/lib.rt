@@ -5,12 +5,11 @@
 // A list is a row of words of eight bytes, the lowest first. A call's words are those that network_replay tells, with three more
 // calls and one word behind each:
 //   0     the call: 1 begin, 2 set options, 3 send, 4 take, 7 put, 8 put into the journal, 9 mark, 10 rewind
-//   1..6  as in network_replay: the expected refusal, answer, output and network
-//   6..   begin             6 to 10 the options, 11 how many words the journal has: of those lent, filled with a pattern
-//         put into the journal  6 place, 7 value: no call of ours, but a word of the journal that is set
-//         mark              nothing
-//         rewind            6 how many calls
-//         and the others as in network_replay
+//   1..6  the expected refusal, answer, output and network
+//   6..   the call's own words, as in network_replay but for
+//           begin                 6 to 10 the options, 11 how many of the lent words are the journal: it is filled with a pattern
+//           put into the journal  6 place, 7 value: no call of ours, but a word of the journal that is set
+//           rewind                6 how many calls
 //   last  the hash expected of the journal's words
 use network::Network;
 use network::NetworkOptions;
@@ -265,8 +264,10 @@ impl Tally {
         requires { ⌜ (31 ≤ number) × (number ≤ 33) ⌝ }
     {
         let met = self.meets((number - 31) as usize);
-        if is_rewind {
-            return met.meets_if(forged, FORGED_REFUSED);
+        if number == 31 {
+            if is_rewind {
+                return met.meets_if(forged, FORGED_REFUSED);
+            }
         }
         met
     }
