@@ -14,8 +14,7 @@
 use network::Network;
 use network::NetworkOptions;
 use network_replay::Done;
-ghost use mathlib.Core.Path.{_≡_};
-ghost use Prim.Native.Nat.{_+_, _*_, _≤_, _<_};
+ghost use Prim.Native.Nat.{_+_, _≤_};
 ghost use lib.ListN.{length};
 
 // Where the tally has each outcome that is none of a network's: the refusals 31 to 33 stand from 0 on.
