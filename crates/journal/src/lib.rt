@@ -18,7 +18,7 @@ ghost use lib.ListN.{length};
 ghost use Rattle.nights.specs.Record.{wordsOf};
 ghost use Rattle.nights.specs.Net.{keep, isDue, bit, goodOptions};
 ghost use Rattle.nights.specs.Draws.{decided};
-ghost use Rattle.nights.specs.Journal.{used, overwrite, logged, goodHeader, verdict, journalTests, mark, rewind, refused};
+ghost use Rattle.nights.specs.Journal.{used, overwrite, logged, goodHeader, verdict, journalTests, mark, rewind, done, refused};
 ghost use Rattle.network.specs.Answers.{number, settledOf, countedOf, sentOf, counting, sending};
 ghost use Rattle.network.specs.Forms.{plainOf};
 ghost use Rattle.network.specs.Calls.{written};
@@ -250,9 +250,14 @@ pub fn rewind(network: Network, k: u64, journal: &mut [u64]) -> Next
     }
     journal[0] = held - k;
     journal[1] = before.start as u64;
-    let earlier = before.network;
+    rewound(before.network)
+}
+
+fn rewound(network: Network) -> Next
+    ensures { λ t. ⌜ (t .network ≡ network) × (settledOf (t .answer) ≡ done) ⌝ }
+{
     Next {
-        network: earlier,
+        network: network,
         answer: Settled::Done,
     }
 }

@@ -127,6 +127,9 @@ slice-write-journal c = omega (arith, top (c .before .before .before .before .be
 slice-write-journal-2 : tie.Need-slice-write-journal-2
 slice-write-journal-2 c = simp length-set (omega (arith, top (c .before .before .before .before .before .before .before) .long))
 
+rewound-requires : tie.Need-rewound-requires
+rewound-requires c κs = search needs
+
 same-length-4 : tie.Need-same-length-4
 same-length-4 c = search needs
 
@@ -136,7 +139,7 @@ returns-5 c =
     let s = start q in
     let u = c .before .before .before .undo-all in
     let m = went-back (s .args .k) (network s) (words s) (formed (q .before .before .before)) (good q) (c .before .before .before .before .before .before .if2 .left) (u .result) (u .ensures .0) (not-false _ (c .before .if3 .left)) (u .ensures .1) (held (c .before .before)) (long (c .before .before)) in
-    (m .network, (m .answer, headed (words s) _ _ (top q .long) ∙ m .words))
+    (c .rewound .ensures .0 ∙ m .network, (c .rewound .ensures .1 ∙ m .answer, headed (words s) _ _ (top q .long) ∙ m .words))
 
 pub rewind-spec : {M : Type 1} → statement M
 rewind-spec =
@@ -162,5 +165,6 @@ rewind-spec =
     returns-4
     slice-write-journal
     slice-write-journal-2
+    rewound-requires
     same-length-4
     returns-5)

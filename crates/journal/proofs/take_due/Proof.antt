@@ -77,9 +77,6 @@ module _ (c : tie.After-known-told) where
   abbrev ended : List ℕ
   ended = set (set array (count * 8) 2) (count * 8 + 1) (count * 8 + 2)
 
-  long-ended : length ended ≡ 1026
-  long-ended = simp length-set long
-
   wrote : take (count * 8 + 2) ended ≡ undoWords (call plain) (plainOf (network plain))
   wrote =
       the-record (network plain) (at plain) (length (output plain)) (told .0) count (told .1) (plain .take-due .last .1 .1 .0) _ 0 0 refl
@@ -166,7 +163,7 @@ mul-record : tie.Need-mul-record
 mul-record c = search needs
 
 array-write-record : tie.Need-array-write-record
-array-write-record c = let k = c .before .before .before .before .before .before .before .before .before .before in omega (arith, small k, long k)
+array-write-record c = omega (arith, small (c .before .before .before .before .before .before .before .before .before .before))
 
 add-record : tie.Need-add-record
 add-record c = search needs
@@ -178,16 +175,16 @@ mul-record-2 : tie.Need-mul-record-2
 mul-record-2 c = search needs
 
 array-write-record-2 : tie.Need-array-write-record-2
-array-write-record-2 c = let k = c .before .before .before .before .before .before .before .before .before .before in omega (arith, small k, long k, length-set (array k) (count k * 8) 2)
+array-write-record-2 c = omega (arith, small (c .before .before .before .before .before .before .before .before .before .before))
 
 add-record-3 : tie.Need-add-record-3
 add-record-3 c = search needs
 
 array-share-prefix-record-2 : tie.Need-array-share-prefix-record-2
-array-share-prefix-record-2 c = let k = c .before .before .before .before .before .before .before .before .before .before .before in omega (arith, small k, long-ended k)
+array-share-prefix-record-2 c = let k = c .before .before .before .before .before .before .before .before .before .before .before in simp length-set (omega (arith, small k, long k))
 
 slice-aggregate-append : tie.Need-slice-aggregate-append
-slice-aggregate-append c = let k = c .before .before .before .before .before .before .before .before .before .before .before .before in sym (length-take-le _ (ended k) (omega (arith, small k, long-ended k)))
+slice-aggregate-append c = let k = c .before .before .before .before .before .before .before .before .before .before .before .before in sym (length-take-le _ _ (simp length-set (omega (arith, small k, long k))))
 
 append-requires : tie.Need-append-requires
 append-requires c κs =
