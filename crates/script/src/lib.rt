@@ -1,7 +1,6 @@
 // Fault scripts: what to inject, and at which tick. The names are the Rust's.
 pub mod fault;
 pub mod line;
-pub mod words;
 
 use fault::Fault;
 use line::Line;

@@ -2,10 +2,9 @@
 use crate::fault;
 use crate::fault::Fault;
 use crate::fault::Named;
-use crate::words;
 use numeral::Number;
 ghost use mathlib.Core.Path.{_≡_};
-ghost use Rattle.script.specs.Words.{wordsOf};
+ghost use Rattle.words.specs.Words.{wordsOf};
 ghost use Rattle.script.specs.Lines.{lineSays, ofWords, withFault, present};
 
 // Why a script is refused, in the order in which it is tested.

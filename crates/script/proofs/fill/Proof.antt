@@ -10,7 +10,7 @@ use lib.ListN.{length, take, drop, length-drop}
 use Rattle.order.specs.Order.{Event, wordsOf}
 use Rattle.script.specs.Lines.{lineSays}
 use Rattle.script.specs.Scripts.{eventsIn, eventsOf, said}
-use Rattle.script.proofs.Walk.{until-in}
+use Rattle.words.proofs.Walk.{until-in}
 use Rattle.script.proofs.Judging.{left, left-all, left-none, left-step}
 use Rattle.script.proofs.Filling.{written, length-written, written-all, next-within, next-left, next-written}
 use Rattle.script.proofs.fill.Statement.{statement}

@@ -9,7 +9,7 @@ use lib.Dec.{eqb}
 use lib.ListN.{length, take, drop}
 use Rattle.script.specs.Lines.{lineSays}
 use Rattle.script.specs.Scripts.{judged, said}
-use Rattle.script.proofs.Walk.{until-in}
+use Rattle.words.proofs.Walk.{until-in}
 use Rattle.script.proofs.Judging.{left, left-all, left-none, left-step, judged-on, judged-stop}
 use Rattle.script.proofs.judge.Statement.{statement}
 use Rattle.script.proofs.judge.Tie as tie

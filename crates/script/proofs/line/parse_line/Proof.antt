@@ -8,10 +8,10 @@ use Prim.Native.Nat.{ℕ, _+_, _≤_}
 use lib.Dec.{eqb}
 use lib.ListN.{length, take, drop}
 use lib.Seq.{length-take-le}
-use Rattle.script.specs.Words.{until, cutAt, strip, wordsOf}
+use Rattle.words.specs.Words.{until, cutAt, strip, wordsOf}
 use Rattle.script.specs.Lines.{ofWords, lineSays}
-use Rattle.script.proofs.Walk.{until-within}
-use Rattle.script.proofs.Cutting.{strip-words}
+use Rattle.words.proofs.Walk.{until-within}
+use Rattle.words.proofs.Cutting.{strip-words}
 use Rattle.script.proofs.line.parse_line.Statement.{statement}
 use Rattle.script.proofs.line.parse_line.Tie as tie
 

@@ -1,16 +1,16 @@
--- `script::words::skip_space` meets its contract, by the walk to the first byte that is no white space. Assumes nothing.
+-- `script::words::skip_word` meets its contract, by the walk to the first white space. Assumes nothing.
 use native.Mathlib.Omega.{arith}
 use mathlib.Core.Bool.{not}
 use mathlib.Core.Path.{_≡_, refl, sym, ap, _∙_}
 use Prim.Native.Nat.{ℕ, _-_}
 use lib.ListN.{length}
-use Rattle.script.specs.Words.{isSpace, notSpace}
-use Rattle.script.proofs.Walk.{Walked, walk-on, walk-stops, walk-ends}
-use Rattle.script.proofs.words.skip_space.Statement.{statement}
-use Rattle.script.proofs.words.skip_space.Tie as tie
+use Rattle.words.specs.Words.{isSpace, notSpace}
+use Rattle.words.proofs.Walk.{Walked, walk-on, walk-stops, walk-ends}
+use Rattle.words.proofs.skip_word.Statement.{statement}
+use Rattle.words.proofs.skip_word.Tie as tie
 
 abbrev Inv-loop : tie.InvT-loop
-Inv-loop line from i₀ i = Walked notSpace line from i
+Inv-loop line from i₀ i = Walked isSpace line from i
 
 abbrev μ-loop : tie.MeasureT-loop
 μ-loop line from i₀ i = length line - i
@@ -29,7 +29,7 @@ unfolding notSpace
 returns c =
     let s = c .before .before .before .before in
     let a = s .before .before .args in
-    walk-stops notSpace (a .line .now) (a .from) (s .loop .i) (c .before .before .before .loop-test .taken) (ap not (sym (c .before .is-space .ensures)) ∙ c .if1 .taken) (s .loop .inv)
+    walk-stops isSpace (a .line .now) (a .from) (s .loop .i) (c .before .before .before .loop-test .taken) (sym (c .before .is-space .ensures) ∙ c .if1 .taken) (s .loop .inv)
 
 add-i : tie.Need-add-i Inv-loop μ-loop
 add-i c = omega arith
@@ -42,15 +42,15 @@ unfolding notSpace
 loop-again c =
     let s = c .before .before .before .before in
     let a = s .before .before .args in
-    walk-on notSpace (a .line .now) (a .from) (s .loop .i) (c .before .before .before .loop-test .taken) (ap not (sym (c .before .is-space .ensures)) ∙ c .if1 .left) (s .loop .inv)
+    walk-on isSpace (a .line .now) (a .from) (s .loop .i) (c .before .before .before .loop-test .taken) (sym (c .before .is-space .ensures) ∙ c .if1 .left) (s .loop .inv)
 
 returns-2 : tie.Need-returns-2 Inv-loop μ-loop
 returns-2 c =
     let s = c .before in
     let a = s .before .before .args in
-    walk-ends notSpace (a .line .now) (a .from) (s .loop .i) (c .loop-test .left) (s .loop .inv)
+    walk-ends isSpace (a .line .now) (a .from) (s .loop .i) (c .loop-test .left) (s .loop .inv)
 
-pub skip-space-spec : {M : Type 1} → statement M
-skip-space-spec =
+pub skip-word-spec : {M : Type 1} → statement M
+skip-word-spec =
     tie.close
     (tie.spec Inv-loop μ-loop loop-holds shared-slice-read-is-space is-space-requires returns add-i loop-less loop-again returns-2)

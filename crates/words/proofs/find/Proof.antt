@@ -5,9 +5,9 @@ use mathlib.Core.Path.{_≡_, refl, sym}
 use Prim.Native.Nat.{ℕ, _-_}
 use lib.Dec.{eqb}
 use lib.ListN.{length, getD}
-use Rattle.script.proofs.Walk.{Walked, walk-on, walk-stops, walk-ends}
-use Rattle.script.proofs.words.find.Statement.{statement}
-use Rattle.script.proofs.words.find.Tie as tie
+use Rattle.words.proofs.Walk.{Walked, walk-on, walk-stops, walk-ends}
+use Rattle.words.proofs.find.Statement.{statement}
+use Rattle.words.proofs.find.Tie as tie
 
 abbrev Inv-loop : tie.InvT-loop
 Inv-loop text byte from i₀ i = Walked (eqb byte) text from i

@@ -4,11 +4,11 @@ use mathlib.Core.Path.{_≡_, ap, _∙_}
 use mathlib.Core.List.{List}
 use Prim.Native.Nat.{ℕ, _+_}
 use lib.ListN.{drop}
-use Rattle.script.specs.Words.{isSpace, notSpace, until, wordFrom}
-use Rattle.script.specs.declared.words.Bounds.{Bounds}
-use Rattle.script.proofs.Walk.{until-in}
-use Rattle.script.proofs.words.word_from.Statement.{statement}
-use Rattle.script.proofs.words.word_from.Tie as tie
+use Rattle.words.specs.Words.{isSpace, notSpace, until, wordFrom}
+use Rattle.words.specs.declared.Bounds.{Bounds}
+use Rattle.words.proofs.Walk.{until-in}
+use Rattle.words.proofs.word_from.Statement.{statement}
+use Rattle.words.proofs.word_from.Tie as tie
 
 word-is : (l : List ℕ) (place s e : ℕ) → s ≡ place + until notSpace (drop place l) → e ≡ s + until isSpace (drop s l)
     → _≡_ {A = Bounds} (record { start = s; end = e }) (wordFrom l place)

@@ -5,8 +5,8 @@ use mathlib.Core.List.{List, [], _∷_}
 use Prim.Native.Nat.{ℕ, suc, _+_}
 use lib.Dec.{leb, eqb}
 use lib.ListN.{take, drop}
-use Rattle.script.specs.declared.words.Bounds.{Bounds}
-use Rattle.script.specs.declared.words.FirstWords.{FirstWords}
+use Rattle.words.specs.declared.Bounds.{Bounds}
+use Rattle.words.specs.declared.FirstWords.{FirstWords}
 
 -- white space: the bytes 9 to 13 and 32
 unfoldable pub isSpace : ℕ → Bool

@@ -3,12 +3,12 @@ use borrow.Author.Needs.{needs}
 use mathlib.Core.Path.{_≡_, ap, _∙_}
 use mathlib.Core.List.{List}
 use Prim.Native.Nat.{ℕ}
-use Rattle.script.specs.Words.{wordFrom, firstWords}
-use Rattle.script.specs.declared.words.Bounds.{Bounds}
-use Rattle.script.specs.declared.words.FirstWords.{FirstWords}
-use Rattle.script.proofs.Cutting.{from-in}
-use Rattle.script.proofs.words.first_words.Statement.{statement}
-use Rattle.script.proofs.words.first_words.Tie as tie
+use Rattle.words.specs.Words.{wordFrom, firstWords}
+use Rattle.words.specs.declared.Bounds.{Bounds}
+use Rattle.words.specs.declared.FirstWords.{FirstWords}
+use Rattle.words.proofs.Cutting.{from-in}
+use Rattle.words.proofs.first_words.Statement.{statement}
+use Rattle.words.proofs.first_words.Tie as tie
 
 words-are : (l : List ℕ) (a b d : Bounds) → a ≡ wordFrom l 0 → b ≡ wordFrom l (a .end) → d ≡ wordFrom l (b .end)
     → _≡_ {A = FirstWords} (record { tick = a; name = b; id = d }) (firstWords l)

@@ -7,7 +7,7 @@ use native.Mathlib.Omega.{arith}
 use native.Mathlib.Numerals.{add-one}
 use lib.ListN.{length, drop, getD, length-drop, drop-of-length-le}
 use lib.Seq.{drop-cons}
-use Rattle.script.specs.Words.{until}
+use Rattle.words.specs.Words.{until}
 
 -- the walk's end seen from its start is its end seen from here
 abbrev pub Walked : (ℕ → Bool) → List ℕ → ℕ → ℕ → Type 0

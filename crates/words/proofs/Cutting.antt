@@ -9,10 +9,10 @@ use lib.ListN.{length, take, drop}
 use borrow.Author.Tests.{eqb-true, eqb-false, eq-eqb, ne-eqb}
 use lib.Dec.{eqb}
 use lib.Seq.{drop-drop}
-use Rattle.script.specs.Words.{isSpace, notSpace, until, joined, stripFront, keptBefore, stripEnd, strip, begins, wordsOf, startFrom, wordFrom, firstWords, linesOf}
-use Rattle.script.specs.declared.words.FirstWords.{FirstWords}
-use Rattle.script.proofs.Walk.{until-in}
-use Rattle.script.specs.declared.words.Bounds.{Bounds}
+use Rattle.words.specs.Words.{isSpace, notSpace, until, joined, stripFront, keptBefore, stripEnd, strip, begins, wordsOf, startFrom, wordFrom, firstWords, linesOf}
+use Rattle.words.specs.declared.FirstWords.{FirstWords}
+use Rattle.words.proofs.Walk.{until-in}
+use Rattle.words.specs.declared.Bounds.{Bounds}
 
 -- a word and those after it; where the word is empty there are none
 abbrev pub led : List ℕ → List (List ℕ) → List (List ℕ)

@@ -5,9 +5,9 @@ use mathlib.Core.Bool.{true, false, or-true, or-false}
 use mathlib.Core.Path.{_≡_, refl}
 use Prim.Native.Nat.{ℕ, _≤_, _<_}
 use lib.Dec.{leb}
-use Rattle.script.specs.Words.{isSpace}
-use Rattle.script.proofs.words.is_space.Statement.{statement}
-use Rattle.script.proofs.words.is_space.Tie as tie
+use Rattle.words.specs.Words.{isSpace}
+use Rattle.words.proofs.is_space.Statement.{statement}
+use Rattle.words.proofs.is_space.Tie as tie
 
 space : (b : ℕ) → b ≡ 32 → true ≡ isSpace b
 unfolding isSpace

@@ -3,7 +3,7 @@ ghost use mathlib.Core.Path.{_≡_};
 ghost use Prim.Native.Nat.{_+_, _≤_};
 ghost use lib.Dec.{eqb};
 ghost use lib.ListN.{length, drop};
-ghost use Rattle.script.specs.Words.{isSpace, notSpace, until, wordFrom, firstWords};
+ghost use Rattle.words.specs.Words.{isSpace, notSpace, until, wordFrom, firstWords};
 
 // A word's place in its line. A word that is missing is empty and stands at the line's end.
 pub struct Bounds {
