@@ -5,11 +5,12 @@ use native.Mathlib.Omega.{arith}
 use denote.Floats.{passes}
 use lib.ListN.{length}
 use Rattle.nights.specs.Net.{Fate, Letter, dues, Plain as Call, send as sends, sendOne, effect}
-use Rattle.nights.specs.Draws.{Decided}
+use Rattle.nights.specs.Draws.{Decided, fateOf}
 use Rattle.nights.specs.Journal.{Answer, done}
 use Rattle.nights.proofs.Kept.{Counts, options-good}
 use Rattle.network.specs.declared.Network.{Network}
 use Rattle.network.specs.declared.SendAnswer.{SendAnswer}
+use Rattle.network.specs.Options.{plainOptions}
 use Rattle.network.specs.Answers.{Sending, sentOf, sending, fateAnswer, decisionOf}
 use Rattle.network.specs.Forms.{plainOf, structOf, joined, letterOf}
 use Rattle.network.proofs.OptionForms.{Held}
@@ -43,12 +44,18 @@ counted c = counts (whole (start c)) (start c .pre .1)
 abbrev fate : (c : tie.After-decide) → Fate
 fate c = decisionOf (c .decide .result) .fate
 
+fated : (c : tie.After-decide) → let a = start c .args in fateOf (plainOptions (a .head .options)) (a .now) (a .kind) (a .draws .now) (a .extras .now) ≡ fate c
+fated c = sym (ap (λ (x : Decided). x .fate) (c .decide .ensures))
+
+told : (c : tie.After-told-by) → fateAnswer (fate (c .before)) ≡ sentOf (c .told-by .result) .answer
+told c =
+    sym (answer-of (fateAnswer (fate (c .before))) (decisionOf (c .before .decide .result)))
+    ∙ sym (ap (λ (t : Sending). t .answer) (c .told-by .ensures))
+
 -- ---- and once it was accepted
 
 accepted : (c : tie.After-enum-told) → fateAnswer (fate (c .before .before .before)) ≡ done
-accepted c =
-    sym (answer-of (fateAnswer (fate (c .before .before .before))) (decisionOf (c .before .before .before .decide .result)))
-    ∙ (sym (ap (λ (t : Sending). t .answer) (c .before .before .told-by .ensures)) ∙ ap (λ (t : SendAnswer). sentOf t .answer) (c .enum-told .given .1))
+accepted c = told (c .before .before) ∙ ap (λ (t : SendAnswer). sentOf t .answer) (c .enum-told .given .1)
 
 room : (c : tie.Else4) → start (c .before .before .before .before .before) .args .head .pending + length (dues (fate (c .before .before .before .before .before))) ≤ 128
 room c = omega (arith, c .if4 .left, c .before .copies-by .ensures)
@@ -88,10 +95,9 @@ returns-4 c =
     let d = c .before .before .before in
     let b = start d in
     let r = c .before .before .told-by .ensures in
-    let t = sym (answer-of (fateAnswer (fate d)) (decisionOf (d .decide .result)))
-    ∙ (sym (ap (λ (t : Sending). t .answer) r) ∙ ap (λ (t : SendAnswer). sentOf t .answer) (c .enum-told2 .given .1)) in
+    let t = told (c .before .before) ∙ ap (λ (t : SendAnswer). sentOf t .answer) (c .enum-told2 .given .1) in
     let e = fate-refuses (whole b) (b .pre .1) (letter b) (b .args .draws .now) (b .args .extras .now) (d .before .before .before .before .if1 .left) (d .before .before .before .if2 .left) (d .before .if3 .left) _
-    (sym (ap (λ (x : Decided). x .fate) (d .decide .ensures)) ∙ refusing-fate (fate d) _ t) in (
+    (fated d ∙ refusing-fate (fate d) _ t) in (
       stays (whole b) (call b) _ e,
       rw (e ∙ sym t) (r ∙ ap (λ (x : Decided). sending (fateAnswer (fate d)) x) (d .decide .ensures)),
     )
@@ -111,7 +117,7 @@ returns-5 c =
     let b = start d in
     unsent (whole b) (call b) _ 29
     (queue-full (whole b) (b .pre .1) (letter b) (b .args .draws .now) (b .args .extras .now) (d .before .before .before .before .if1 .left) (d .before .before .before .if2 .left) (d .before .if3 .left)
-    (fate d) (sym (ap (λ (x : Decided). x .fate) (d .decide .ensures))) (accepted (c .before .before)) (omega (arith, c .if4 .taken, c .before .copies-by .ensures)))
+    (fate d) (fated d) (accepted (c .before .before)) (omega (arith, c .if4 .taken, c .before .copies-by .ensures)))
 
 queue-copies-requires : tie.Need-queue-copies-requires
 queue-copies-requires c κs =
@@ -171,7 +177,7 @@ returns-6 c =
     let d = a .before .before .before in
     let b = start d in
     let e = send-well (whole b) (b .pre .1) (letter b) (b .args .draws .now) (b .args .extras .now) (d .before .before .before .before .if1 .left) (d .before .before .before .if2 .left) (d .before .if3 .left)
-    (fate d) (sym (ap (λ (x : Decided). x .fate) (d .decide .ensures))) (accepted a) (room l) in (
+    (fate d) (fated d) (accepted a) (room l) in (
       rw (l .before .copies-by .ensures, c .before .before .before .before .before .lost-by .ensures, c .before .before .before .replayed-by .ensures, c .before .delayed-by .ensures)
           (sent-network (whole b) (b .pre .1) (held b) (b .pre .0) (letter b) (fate d) (room l) _ (q .queue-copies .ensures)
           ∙ (ap (λ (x : Decided). structOf (sendOne (letter b) (x .fate) (plainOf (whole b)))) (d .decide .ensures) ∙ follows (whole b) (call b) e)),

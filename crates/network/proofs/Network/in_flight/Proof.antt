@@ -60,7 +60,7 @@ copy-out-requires : tie.Need-copy-out-requires
 copy-out-requires c κs =
     let b = c .before .before .before in
     let h = small (start b .args .self) (formed b) in
-    (long b, omega arith, c .before .before .if2 .left)
+    (long b, omega arith, omega arith)
 
 same-length : tie.Need-same-length
 same-length c = search needs
