@@ -247,8 +247,9 @@ pub fn rewind(network: Network, k: u64, journal: &mut [u64]) -> Next
     }
     journal[0] = held - k;
     journal[1] = before.start as u64;
+    let earlier = before.network;
     Next {
-        network: before.network,
+        network: earlier,
         answer: Settled::Done,
     }
 }
