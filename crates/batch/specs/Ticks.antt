@@ -3,7 +3,7 @@
 use Prim.Native.Nat.{ℕ, zero, suc, _+_, _*_, _/_, _^_}
 use mathlib.Core.Bool.{cond}
 use mathlib.Core.List.{List, [], _∷_, _++_}
-use lib.Dec.{eqb}
+use lib.Dec.{leb, eqb}
 use lib.ListN.{length, drop, getD}
 use Rattle.nights.specs.Record.{wordsOf}
 use Rattle.nights.specs.Net.{Letter, send, take, keep, isDue}
@@ -16,10 +16,14 @@ use Rattle.network_words.specs.Layout.{headWords, networkIn}
 use Rattle.batch.specs.declared.Run.{Run}
 use Rattle.network_words.specs.Calls.{ifHead}
 
--- the words of a message, and the message at a place of a list
+-- the words of a message, and the most messages of a tick
 abbrev pub messageWords : ℕ
 messageWords = 6
 
+abbrev pub most : ℕ
+most = 65536
+
+-- the message at a place of a list
 abbrev pub letterAt : List ℕ → ℕ → Letter
 letterAt w i =
     letterOf (getD w (6 * i) 0) (getD w (6 * i + 1) 0) (getD w (6 * i + 2) 0) (getD w (6 * i + 3) 0) (getD w (6 * i + 4) 0) (getD w (6 * i + 5) 0)
@@ -81,12 +85,15 @@ module _ (h r sends draws extras : List ℕ) (now : ℕ) (out told : List ℕ) w
   afterSends (stopped k place) = refusing k place
   afterSends (all s d x) = taking (callAnswer (take now (length out)) s) s d x
 
-  -- the network is tested first (23, at place 0), then that the list is whole messages (24, at the place of the broken one)
+  -- the network is tested first (23, at place 0); then that the list has at most 65,536 messages and is whole ones (24, at the place
+  -- of the first that is over or broken)
   unfoldable pub tested : Answer → Tick
   tested (refused k) = refusing k 0
   tested done =
-      cond (eqb (length sends) (messageWords * count)) (afterSends (sendsFrom sends draws extras count 0 0 0 (networkIn h r)))
-      (refusing 24 count)
+      cond (leb count most)
+      (cond (eqb (length sends) (messageWords * count)) (afterSends (sendsFrom sends draws extras count 0 0 0 (networkIn h r)))
+      (refusing 24 count))
+      (refusing 24 most)
 
   abbrev pub ticked : Tick
   ticked = tested (ifHead h (formAnswer (networkIn h r)))

@@ -8,7 +8,7 @@ use network::SendAnswer;
 ghost use mathlib.Core.Path.{_≡_};
 ghost use mathlib.Core.Bool.{true};
 ghost use mathlib.Core.List.{[], _∷_};
-ghost use Prim.Native.Nat.{_+_, _*_, _≤_, _<_, _^_};
+ghost use Prim.Native.Nat.{_+_, _*_, _≤_};
 ghost use lib.ListN.{length, drop};
 ghost use Rattle.nights.specs.Net.{send};
 ghost use Rattle.nights.specs.Draws.{decided};
@@ -21,14 +21,17 @@ ghost use Rattle.batch.specs.Ticks.{letterAt, numberAt, sendsFrom, ticke
 // The words of a message: the tick it is sent at, the sender's sort and id, the receiver, kind and handle.
 pub const MESSAGE: usize = 6;
 
+// The most messages of a tick.
+pub const MOST: usize = 65536;
+
 // A refusal's number stands above the low 32 bits, and the call's place in them.
 const PLACED: u64 = 0x1_0000_0000;
 
-// The number of a list that is no whole number of messages.
+// The number of a list that is no whole number of messages, or has too many.
 const BROKEN_MESSAGE: u64 = 24;
 
 fn at(number: u64, place: usize) -> u64
-    requires { ⌜ (number ≤ 64) × (place < 2 ^ 32) ⌝ }
+    requires { ⌜ (number ≤ 33) × (place ≤ 65536) ⌝ }
     ensures { λ r. ⌜ r ≡ numberAt number place ⌝ }
 {
     number * PLACED + place as u64
@@ -147,6 +150,9 @@ pub fn tick(
         return at(network_words::ILL_FORMED, 0);
     }
     let count = sends.len() / MESSAGE;
+    if MOST < count {
+        return at(BROKEN_MESSAGE, MOST);
+    }
     if count * MESSAGE != sends.len() {
         return at(BROKEN_MESSAGE, count);
     }
