@@ -9,14 +9,14 @@ use Rattle.network_words.specs.Layout.{headWords, networkIn}
 use Rattle.network_words.specs.Calls.{onDone, ifHead}
 
 module _ (c : Call) (h r j : List ℕ) where
-  abbrev pub answerIn : Answer
-  answerIn = ifHead h (answerOf c (networkIn h r) j)
+  abbrev pub journalAnswer : Answer
+  journalAnswer = ifHead h (answerOf c (networkIn h r) j)
 
-  abbrev pub headAfter : List ℕ
-  headAfter = onDone answerIn (headWords (headOf (networkAfter c (networkIn h r) j))) h
+  abbrev pub journalHead : List ℕ
+  journalHead = onDone journalAnswer (headWords (headOf (networkAfter c (networkIn h r) j))) h
 
-  abbrev pub recordsAfter : List ℕ
-  recordsAfter = onDone answerIn (networkAfter c (networkIn h r) j .words) r
+  abbrev pub journalRecords : List ℕ
+  journalRecords = onDone journalAnswer (networkAfter c (networkIn h r) j .words) r
 
-  abbrev pub journalAfter : List ℕ
-  journalAfter = onDone answerIn (wordsAfter c (networkIn h r) j) j
+  abbrev pub journalWords : List ℕ
+  journalWords = onDone journalAnswer (wordsAfter c (networkIn h r) j) j

@@ -24,7 +24,7 @@ ghost use Rattle.network.specs.Calls.{written};
 ghost use Rattle.network_words.specs.Layout.{optionsFrom, networkIn, headWords};
 ghost use Rattle.network_words.specs.Calls.{numberOf, onDone, sendTold};
 ghost use Rattle.journal.specs.Calls.{sends, takes, chooses, markAnswer, markWords};
-ghost use Rattle.journal_words.specs.Calls.{answerIn, headAfter, recordsAfter, journalAfter};
+ghost use Rattle.journal_words.specs.Calls.{journalAnswer, journalHead, journalRecords, journalWords};
 
 // The number of a call that has nothing more to tell.
 fn settled_number(answer: Settled) -> u64
@@ -78,11 +78,11 @@ pub fn send(
     journal: &mut [u64],
     told: &mut [u64; 4],
 ) -> u64
-    ensures answer { λ r. ⌜ r ≡ numberOf (answerIn (sends now sort origin to kind handle (draws .entry .now) (extras .entry .now)) (head .entry .now) (records .entry .now) (journal .entry .now)) ⌝ }
-    ensures head { λ _. ⌜ head .exit .now ≡ headAfter (sends now sort origin to kind handle (draws .entry .now) (extras .entry .now)) (head .entry .now) (records .entry .now) (journal .entry .now) ⌝ }
-    ensures records { λ _. ⌜ records .exit .now ≡ recordsAfter (sends now sort origin to kind handle (draws .entry .now) (extras .entry .now)) (head .entry .now) (records .entry .now) (journal .entry .now) ⌝ }
-    ensures journal { λ _. ⌜ journal .exit .now ≡ journalAfter (sends now sort origin to kind handle (draws .entry .now) (extras .entry .now)) (head .entry .now) (records .entry .now) (journal .entry .now) ⌝ }
-    ensures told { λ _. ⌜ told .exit .now ≡ onDone (answerIn (sends now sort origin to kind handle (draws .entry .now) (extras .entry .now)) (head .entry .now) (records .entry .now) (journal .entry .now)) (sendTold (decided (plainOf (networkIn (head .entry .now) (records .entry .now)) .options) now kind (draws .entry .now) (extras .entry .now))) (told .entry .now) ⌝ }
+    ensures answer { λ r. ⌜ r ≡ numberOf (journalAnswer (sends now sort origin to kind handle (draws .entry .now) (extras .entry .now)) (head .entry .now) (records .entry .now) (journal .entry .now)) ⌝ }
+    ensures head { λ _. ⌜ head .exit .now ≡ journalHead (sends now sort origin to kind handle (draws .entry .now) (extras .entry .now)) (head .entry .now) (records .entry .now) (journal .entry .now) ⌝ }
+    ensures records { λ _. ⌜ records .exit .now ≡ journalRecords (sends now sort origin to kind handle (draws .entry .now) (extras .entry .now)) (head .entry .now) (records .entry .now) (journal .entry .now) ⌝ }
+    ensures journal { λ _. ⌜ journal .exit .now ≡ journalWords (sends now sort origin to kind handle (draws .entry .now) (extras .entry .now)) (head .entry .now) (records .entry .now) (journal .entry .now) ⌝ }
+    ensures told { λ _. ⌜ told .exit .now ≡ onDone (journalAnswer (sends now sort origin to kind handle (draws .entry .now) (extras .entry .now)) (head .entry .now) (records .entry .now) (journal .entry .now)) (sendTold (decided (plainOf (networkIn (head .entry .now) (records .entry .now)) .options) now kind (draws .entry .now) (extras .entry .now))) (told .entry .now) ⌝ }
 {
     let loaded = network_words::load(head);
     if !loaded.fits {
@@ -129,12 +129,12 @@ pub fn take_due(
     journal: &mut [u64],
     told: &mut [u64; 1],
 ) -> u64
-    ensures answer { λ r. ⌜ r ≡ numberOf (answerIn (takes now (length (out .entry .now))) (head .entry .now) (records .entry .now) (journal .entry .now)) ⌝ }
-    ensures head { λ _. ⌜ head .exit .now ≡ headAfter (takes now (length (out .entry .now))) (head .entry .now) (records .entry .now) (journal .entry .now) ⌝ }
-    ensures records { λ _. ⌜ records .exit .now ≡ recordsAfter (takes now (length (out .entry .now))) (head .entry .now) (records .entry .now) (journal .entry .now) ⌝ }
-    ensures out { λ _. ⌜ out .exit .now ≡ written (answerIn (takes now (length (out .entry .now))) (head .entry .now) (records .entry .now) (journal .entry .now)) (wordsOf (keep (isDue now) (plainOf (networkIn (head .entry .now) (records .entry .now)) .pending))) (out .entry .now) ⌝ }
-    ensures journal { λ _. ⌜ journal .exit .now ≡ journalAfter (takes now (length (out .entry .now))) (head .entry .now) (records .entry .now) (journal .entry .now) ⌝ }
-    ensures told { λ _. ⌜ told .exit .now ≡ onDone (answerIn (takes now (length (out .entry .now))) (head .entry .now) (records .entry .now) (journal .entry .now)) (length (keep (isDue now) (plainOf (networkIn (head .entry .now) (records .entry .now)) .pending)) ∷ []) (told .entry .now) ⌝ }
+    ensures answer { λ r. ⌜ r ≡ numberOf (journalAnswer (takes now (length (out .entry .now))) (head .entry .now) (records .entry .now) (journal .entry .now)) ⌝ }
+    ensures head { λ _. ⌜ head .exit .now ≡ journalHead (takes now (length (out .entry .now))) (head .entry .now) (records .entry .now) (journal .entry .now) ⌝ }
+    ensures records { λ _. ⌜ records .exit .now ≡ journalRecords (takes now (length (out .entry .now))) (head .entry .now) (records .entry .now) (journal .entry .now) ⌝ }
+    ensures out { λ _. ⌜ out .exit .now ≡ written (journalAnswer (takes now (length (out .entry .now))) (head .entry .now) (records .entry .now) (journal .entry .now)) (wordsOf (keep (isDue now) (plainOf (networkIn (head .entry .now) (records .entry .now)) .pending))) (out .entry .now) ⌝ }
+    ensures journal { λ _. ⌜ journal .exit .now ≡ journalWords (takes now (length (out .entry .now))) (head .entry .now) (records .entry .now) (journal .entry .now) ⌝ }
+    ensures told { λ _. ⌜ told .exit .now ≡ onDone (journalAnswer (takes now (length (out .entry .now))) (head .entry .now) (records .entry .now) (journal .entry .now)) (length (keep (isDue now) (plainOf (networkIn (head .entry .now) (records .entry .now)) .pending)) ∷ []) (told .entry .now) ⌝ }
 {
     let loaded = network_words::load(head);
     if !loaded.fits {
@@ -178,9 +178,9 @@ pub fn set_options(
     flag: u64,
     journal: &mut [u64],
 ) -> u64
-    ensures answer { λ r. ⌜ r ≡ numberOf (answerIn (chooses (optionsFrom loss replay min mean flag)) (now (head .entry)) (now (records .entry)) (now (journal .entry))) ⌝ }
-    ensures head { λ _. ⌜ now (head .exit) ≡ headAfter (chooses (optionsFrom loss replay min mean flag)) (now (head .entry)) (now (records .entry)) (now (journal .entry)) ⌝ }
-    ensures journal { λ _. ⌜ now (journal .exit) ≡ journalAfter (chooses (optionsFrom loss replay min mean flag)) (now (head .entry)) (now (records .entry)) (now (journal .entry)) ⌝ }
+    ensures answer { λ r. ⌜ r ≡ numberOf (journalAnswer (chooses (optionsFrom loss replay min mean flag)) (now (head .entry)) (now (records .entry)) (now (journal .entry))) ⌝ }
+    ensures head { λ _. ⌜ now (head .exit) ≡ journalHead (chooses (optionsFrom loss replay min mean flag)) (now (head .entry)) (now (records .entry)) (now (journal .entry)) ⌝ }
+    ensures journal { λ _. ⌜ now (journal .exit) ≡ journalWords (chooses (optionsFrom loss replay min mean flag)) (now (head .entry)) (now (records .entry)) (now (journal .entry)) ⌝ }
 {
     let loaded = network_words::load(head);
     if !loaded.fits {
@@ -207,10 +207,10 @@ pub fn set_options(
 
 // Goes back over the last k calls held.
 pub fn rewind(head: &mut [u64; 12], records: &mut [u64; 1024], k: u64, journal: &mut [u64]) -> u64
-    ensures answer { λ r. ⌜ r ≡ numberOf (answerIn (rewind k) (now (head .entry)) (now (records .entry)) (now (journal .entry))) ⌝ }
-    ensures head { λ _. ⌜ now (head .exit) ≡ headAfter (rewind k) (now (head .entry)) (now (records .entry)) (now (journal .entry)) ⌝ }
-    ensures records { λ _. ⌜ now (records .exit) ≡ recordsAfter (rewind k) (now (head .entry)) (now (records .entry)) (now (journal .entry)) ⌝ }
-    ensures journal { λ _. ⌜ now (journal .exit) ≡ journalAfter (rewind k) (now (head .entry)) (now (records .entry)) (now (journal .entry)) ⌝ }
+    ensures answer { λ r. ⌜ r ≡ numberOf (journalAnswer (rewind k) (now (head .entry)) (now (records .entry)) (now (journal .entry))) ⌝ }
+    ensures head { λ _. ⌜ now (head .exit) ≡ journalHead (rewind k) (now (head .entry)) (now (records .entry)) (now (journal .entry)) ⌝ }
+    ensures records { λ _. ⌜ now (records .exit) ≡ journalRecords (rewind k) (now (head .entry)) (now (records .entry)) (now (journal .entry)) ⌝ }
+    ensures journal { λ _. ⌜ now (journal .exit) ≡ journalWords (rewind k) (now (head .entry)) (now (records .entry)) (now (journal .entry)) ⌝ }
 {
     let loaded = network_words::load(head);
     if !loaded.fits {
