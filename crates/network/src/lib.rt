@@ -864,9 +864,10 @@ impl Network {
         let words = self.words;
         let next = options_in(&words, self.head(), options);
         let head = next.head;
+        let answer = next.answer;
         Next {
             network: head.with(words),
-            answer: next.answer,
+            answer: answer,
         }
     }
 
@@ -907,9 +908,10 @@ impl Network {
         let mut words = self.words;
         let taken = take_in(&mut words, self.head(), now, out);
         let head = taken.head;
+        let answer = taken.answer;
         Taken {
             network: head.with(words),
-            answer: taken.answer,
+            answer: answer,
         }
     }
 
@@ -942,9 +944,10 @@ impl Network {
             extras,
         );
         let head = sent.head;
+        let answer = sent.answer;
         Sent {
             network: head.with(words),
-            answer: sent.answer,
+            answer: answer,
         }
     }
 }
