@@ -96,7 +96,7 @@ returns-3 : tie.Need-returns-3
 returns-3 c =
     let q = c .before .before .before in
     let s = start q in
-    let m = too-far (s .args .k) (network s) (words s) (formed (q .before .before .before)) (good q) (c .before .if2 .taken) in
+    let m = too-far (s .args .k) (network s) (words s) (formed (q .before .before .before)) (good q) (omega (arith, c .before .if2 .taken)) in
     (c .refused3 .ensures .0 ∙ m .network, (c .refused3 .ensures .1 ∙ m .answer, m .words))
 
 slice-read-end : tie.Need-slice-read-end

@@ -4,7 +4,7 @@ use Prim.Native.Nat.{ℕ, _+_, _*_, _≤_}
 use mathlib.Core.Path.{_≡_, refl, sym, ap, _∙_}
 use mathlib.Core.List.{List, [], _∷_, _++_}
 use native.Mathlib.Omega.{arith}
-use lib.ListN.{length, take, set, length-append, length-set}
+use lib.ListN.{length, take, set, length-append, length-take, length-set}
 use lib.Seq.{length-take-le}
 use Rattle.nights.specs.Record.{Record, wordsOf}
 use Rattle.nights.specs.Net.{Plain as Call, take as takes, keep, isDue}
@@ -128,14 +128,18 @@ returns c =
 mul-size : tie.Need-mul-size
 mul-size c = omega (arith, small c)
 
+refused-take-requires : tie.Need-refused-take-requires
+refused-take-requires c κs = search needs
+
 returns-2 : tie.Need-returns-2
 unfolding counting written
 returns-2 c =
-    let k = c .before in
+    let k = c .before .before in
     let p = plain k in
-    let e = lent-short (network p) (at p) (length (output p)) (told k .0) (count k) (told k .1) (c .if1 .taken) in
+    let e = lent-short (network p) (at p) (length (output p)) (told k .0) (count k) (told k .1) (c .before .if1 .taken) in
     let m = refused-first (call p) (network p) (words p) 30 e in
-    (m .network, (ap (λ (a : Answer). counting a (length (due p))) (m .answer), (ap (λ (a : Answer). written a (wordsOf (due p)) (output p)) (m .answer), m .words)))
+    let r = c .refused-take .ensures in
+    (r .0 ∙ m .network, (r .1 ∙ ap (λ (a : Answer). counting a (length (due p))) (m .answer), (ap (λ (a : Answer). written a (wordsOf (due p)) (output p)) (m .answer), m .words)))
 
 add-room-for : tie.Need-add-room-for
 add-room-for c = search needs
@@ -153,7 +157,7 @@ array-share-prefix-record : tie.Need-array-share-prefix-record
 array-share-prefix-record c = let k = c .before .before .before .before .before .before in omega (arith, small k, long k)
 
 slice-aggregate-write-at : tie.Need-slice-aggregate-write-at
-slice-aggregate-write-at c = let k = c .before .before .before .before .before .before .before in sym (length-take-le (count k * 8) (array k) (omega (arith, small k, long k)))
+slice-aggregate-write-at c = let k = c .before .before .before .before .before .before .before in sym (length-take-le _ (array k) (omega (arith, small k, long k)))
 
 write-at-requires : tie.Need-write-at-requires
 write-at-requires c κs = let k = c .before .before .before .before .before .before .before in omega (arith, length-take-le (count k * 8) (array k) (omega (arith, small k, long k)), c .before .before .before .before .before .before .if1 .left)
@@ -183,13 +187,13 @@ array-share-prefix-record-2 : tie.Need-array-share-prefix-record-2
 array-share-prefix-record-2 c = let k = c .before .before .before .before .before .before .before .before .before .before .before in omega (arith, small k, long-ended k)
 
 slice-aggregate-append : tie.Need-slice-aggregate-append
-slice-aggregate-append c = let k = c .before .before .before .before .before .before .before .before .before .before .before .before in sym (length-take-le (count k * 8 + 2) (ended k) (omega (arith, small k, long-ended k)))
+slice-aggregate-append c = let k = c .before .before .before .before .before .before .before .before .before .before .before .before in sym (length-take-le _ (ended k) (omega (arith, small k, long-ended k)))
 
 append-requires : tie.Need-append-requires
 append-requires c κs =
     let k = c .before .before .before .before .before .before .before .before .before .before .before .before in
     let r = roomy (words (plain k)) (count k * 8 + 2) (room (c .before .before .before .before .before .before .before)) in
-    (r .0, omega (arith, r .1, length-take-le (count k * 8 + 2) (ended k) (omega (arith, small k, long-ended k))))
+    (r .0, simp length-take (omega (arith, r .1)))
 
 same-length : tie.Need-same-length
 same-length c = search needs
@@ -219,20 +223,24 @@ returns-3 c =
       ),
     )
 
+refused-take-requires-2 : tie.Need-refused-take-requires-2
+refused-take-requires-2 c κs = search needs
+
 same-length-3 : tie.Need-same-length-3
 same-length-3 c = search needs
 
 returns-4 : tie.Need-returns-4
 unfolding counting written
 returns-4 c =
-    let q = c .before .before .before in
+    let q = c .before .before .before .before in
     let k = q .before .before .before in
     let p = plain k in
     let e = lent-well (network p) (at p) (length (output p)) (told k .0) (count k) (told k .1) (q .before .before .if1 .left) in
-    let j = sym (q .room-for .ensures) ∙ ap settledOf (c .before .refusal .given .1) in
+    let j = sym (q .room-for .ensures) ∙ ap settledOf (c .before .before .refusal .given .1) in
     let z = record-size (network p) (at p) (length (output p)) (told k .0) (count k) (told k .1) in
     let m = refused-then (call p) (network p) (words p) e _ _ z j in
-    (m .network, (ap (λ (a : Answer). counting a (length (due p))) (m .answer), (ap (λ (a : Answer). written a (wordsOf (due p)) (output p)) (m .answer), m .words)))
+    let r = c .refused-take2 .ensures in
+    (r .0 ∙ m .network, (r .1 ∙ ap (λ (a : Answer). counting a (length (due p))) (m .answer), (ap (λ (a : Answer). written a (wordsOf (due p)) (output p)) (m .answer), m .words)))
 
 pub take-due-spec : {M : Type 1} → statement M
 take-due-spec =
@@ -245,6 +253,7 @@ take-due-spec =
     enum-told
     returns
     mul-size
+    refused-take-requires
     returns-2
     add-room-for
     room-for-requires
@@ -266,5 +275,6 @@ take-due-spec =
     same-length
     same-length-2
     returns-3
+    refused-take-requires-2
     same-length-3
     returns-4)
