@@ -271,6 +271,7 @@ pub fn set_options(
     if number != 0 {
         return number;
     }
+    as_row(head);
     put_options(head, loss, replay, min, mean, flag);
     0
 }

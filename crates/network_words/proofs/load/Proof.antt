@@ -1,103 +1,98 @@
+-- `network_words::load` meets its contract: the first test that fails leaves no head, and words that pass all are their head's. Assumes nothing.
+use mathlib.Core.Path.{_≡_, sym, _∙_}
+use mathlib.Core.Bool.{true}
+use borrow.Author.Tests.{not-true, not-false}
+use denote.Floats.{passes}
+use lib.ListN.{getD}
+use Rattle.chance.specs.Probability.{goodWord}
+use Rattle.network_words.proofs.Heads.{no-loss, no-replay, no-flag, fitting, not-loaded, is-loaded}
 use borrow.Author.Needs.{needs}
 use Rattle.network_words.proofs.load.Statement.{statement}
 use Rattle.network_words.proofs.load.Tie as tie
-use Rattle.network_words.proofs.load.Reads as reads
-use Rattle.network_words.proofs.load.Lts as lts
-use Rattle.chance.proofs.good_word.Reads as good-word-reads
-use Rattle.chance.proofs.of_word.Reads as of-word-reads
-use Rattle.network_words.proofs.no_head.Reads as no-head-reads
 
--- src/lib.rt:134:16
+-- both probabilities passed
+loss-good : (c : tie.Else1) → goodWord (getD (c .before .before .before .args .words .now) 0 0) ≡ true
+loss-good c = sym (c .before .good-word .ensures) ∙ not-false _ (c .if1 .left)
+
+replay-good : (c : tie.Else2) → goodWord (getD (c .before .before .before .before .before .before .args .words .now) 1 0) ≡ true
+replay-good c = sym (c .before .good-word2 .ensures) ∙ not-false _ (c .if2 .left)
+
 element-copy-out-loss : tie.Need-element-copy-out-loss
 element-copy-out-loss c = search needs
 
--- src/lib.rt:135:9
 good-word-requires : tie.Need-good-word-requires
 good-word-requires c κs = search needs
 
--- src/lib.rt:136:9
 no-head-requires : tie.Need-no-head-requires
 no-head-requires c κs = search needs
 
--- src/lib.rt:136:9
 returns : tie.Need-returns
-returns c = ?
+returns c = c .no-head .ensures ∙ not-loaded _ (no-loss _ (sym (c .before .before .good-word .ensures) ∙ not-true _ (c .before .if1 .taken)))
 
--- src/lib.rt:138:18
 element-copy-out-replay : tie.Need-element-copy-out-replay
 element-copy-out-replay c = search needs
 
--- src/lib.rt:139:9
 good-word-requires-2 : tie.Need-good-word-requires-2
 good-word-requires-2 c κs = search needs
 
--- src/lib.rt:140:9
 no-head-requires-2 : tie.Need-no-head-requires-2
 no-head-requires-2 c κs = search needs
 
--- src/lib.rt:140:9
 returns-2 : tie.Need-returns-2
-returns-2 c = ?
+returns-2 c =
+    c .no-head2 .ensures
+    ∙ not-loaded _ (no-replay _ (loss-good (c .before .before .before .before)) (sym (c .before .before .good-word2 .ensures) ∙ not-true _ (c .before .if2 .taken)))
 
--- src/lib.rt:142:16
 element-copy-out-flag : tie.Need-element-copy-out-flag
 element-copy-out-flag c = search needs
 
--- src/lib.rt:144:9
 no-head-requires-3 : tie.Need-no-head-requires-3
 no-head-requires-3 c κs = search needs
 
--- src/lib.rt:144:9
 returns-3 : tie.Need-returns-3
-returns-3 c = ?
+returns-3 c =
+    c .no-head3 .ensures
+    ∙ not-loaded _ (no-flag _ (loss-good (c .before .before .before .before .before .before)) (replay-good (c .before .before .before)) (c .before .if3 .taken))
 
--- src/lib.rt:147:34
 of-word-requires : tie.Need-of-word-requires
-of-word-requires c κs = ?
+of-word-requires c κs = passes _ (loss-good (c .before .before .before .before .before))
 
--- src/lib.rt:148:36
 of-word-requires-2 : tie.Need-of-word-requires-2
-of-word-requires-2 c κs = ?
+of-word-requires-2 c κs = passes _ (replay-good (c .before .before .before))
 
--- src/lib.rt:149:28
 element-copy-out-t9 : tie.Need-element-copy-out-t9
 element-copy-out-t9 c = search needs
 
--- src/lib.rt:150:29
 element-copy-out-t22 : tie.Need-element-copy-out-t22
 element-copy-out-t22 c = search needs
 
--- src/lib.rt:155:18
 element-copy-out-t9-2 : tie.Need-element-copy-out-t9-2
 element-copy-out-t9-2 c = search needs
 
--- src/lib.rt:156:14
 element-copy-out-t22-2 : tie.Need-element-copy-out-t22-2
 element-copy-out-t22-2 c = search needs
 
--- src/lib.rt:157:15
 element-copy-out-t30 : tie.Need-element-copy-out-t30
 element-copy-out-t30 c = search needs
 
--- src/lib.rt:158:20
 element-copy-out-t33 : tie.Need-element-copy-out-t33
 element-copy-out-t33 c = search needs
 
--- src/lib.rt:159:15
 element-copy-out-t36 : tie.Need-element-copy-out-t36
 element-copy-out-t36 c = search needs
 
--- src/lib.rt:160:19
 element-copy-out-t39 : tie.Need-element-copy-out-t39
 element-copy-out-t39 c = search needs
 
--- src/lib.rt:161:18
 element-copy-out-t42 : tie.Need-element-copy-out-t42
 element-copy-out-t42 c = search needs
 
--- src/lib.rt:131:1
 returns-4 : tie.Need-returns-4
-returns-4 c = ?
+returns-4 c =
+    let e = c .before .before .before .before .before .before .before .before .before .before .before in
+    let a = loss-good (e .before .before .before .before .before) in
+    rw (c .before .before .before .before .before .before .before .before .before .before .of-word .ensures .0, c .before .before .before .before .before .before .before .before .before .of-word2 .ensures .0)
+    (is-loaded _ (fitting _ a (replay-good (e .before .before)) (e .if3 .left)))
 
 pub load-spec : {M : Type 1} → statement M
 load-spec =
