@@ -241,7 +241,20 @@ pub fn new(
     if number != 0 {
         return number;
     }
-    *head = [loss, replay, min, mean, flag_word(flag != 0), 0, 0, 0, 0, 0, 0, 0];
+    *head = [
+        loss,
+        replay,
+        min,
+        mean,
+        flag_word(flag != 0),
+        0,
+        0,
+        0,
+        0,
+        0,
+        0,
+        0,
+    ];
     clear(records);
     0
 }
@@ -322,7 +335,12 @@ pub fn send(
             extras: added,
         } => {
             store(sent.head, head);
-            *told = [flag_word(lost), flag_word(replayed), drawn as u64, added as u64];
+            *told = [
+                flag_word(lost),
+                flag_word(replayed),
+                drawn as u64,
+                added as u64,
+            ];
             0
         }
     }
