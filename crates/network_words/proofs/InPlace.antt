@@ -16,7 +16,7 @@ use Rattle.nights.proofs.Kept.{both, options-good}
 use Rattle.queue.proofs.Inserting.{length-recs}
 use Rattle.network.specs.declared.Head.{Head}
 use Rattle.network.specs.declared.Network.{Network}
-use Rattle.network.specs.Options.{plainOptions}
+use Rattle.network.specs.Options.{plainOptions, structOptions}
 use Rattle.network.specs.Forms.{plainOf, isFormed, headOf, joined}
 use Rattle.network.specs.Calls.{callAnswer, callNetwork}
 use Rattle.network.proofs.OptionForms.{good-done}
@@ -57,6 +57,14 @@ module _ (o : Options) where
       go true false c h = absurd (omega arith)
       go false b c h = absurd (omega arith)
 
+  -- good ones come back from their struct
+  pub plain-back : goodOptions o ≡ true → plainOptions (structOptions o) ≡ o
+  unfolding goodOptions
+  plain-back g =
+      let p = both (goodWord (o .loss)) _ g in
+      let q = both (goodWord (o .replay)) _ (p .1) in
+      rw (there-and-back (o .loss) (passes _ (p .0)) .0, there-and-back (o .replay) (passes _ (q .0)) .0)
+
   module _ (h r : List ℕ) (g : isFormed (networkIn h r) ≡ true) where
     pub chosen-answer : callAnswer (choose o) (networkIn h r) ≡ verdict (optionTests o [])
     unfolding tests
@@ -65,15 +73,8 @@ module _ (o : Options) where
     -- the five words of the new options before the seven that were there
     pub chosen-head : length h ≡ 12 → verdict (optionTests o []) ≡ done
         → optionWords o (drop 5 h) ≡ headWords (headOf (callNetwork (choose o) (networkIn h r)))
-    unfolding effect goodOptions
+    unfolding effect
     chosen-head long e =
-        let p = both (goodWord (o .loss)) _ (good-done o e) in
-        let q = both (goodWord (o .replay)) _ (p .1) in
         sym
         (ap (λ (x : Network). headWords (headOf x)) (sym (follows (networkIn h r) (choose o) (chosen-answer ∙ e)))
-        ∙ rw (
-          there-and-back (o .loss) (passes _ (p .0)) .0,
-          there-and-back (o .replay) (passes _ (q .0)) .0,
-          length-recs r 0 (getD h 5 0),
-          seven h long,
-        ))
+        ∙ rw (length-recs r 0 (getD h 5 0), seven h long) (ap (λ (p : Options). optionWords p (drop 5 h)) (plain-back (good-done o e))))

@@ -41,9 +41,12 @@ unfolding onDone written
 finished a e = record { number = rw e; words = λ x y. rw e; out = λ x y. rw e }
 
 -- a number that is not 0 is a refusal's
+pub number-refused : (a : Answer) (n : ℕ) → n ≡ numberOf a → (n ≡ 0 → ⊥) → a ≡ refused n
+number-refused done n e h = absurd (h e)
+number-refused (refused k) n e h = ap refused (sym e)
+
 pub kept-by : (a : Answer) (n : ℕ) → n ≡ numberOf a → (n ≡ 0 → ⊥) → Kept a n
-kept-by done n e h = absurd (h e)
-kept-by (refused k) n e h = kept (refused k) n (ap refused (sym e))
+kept-by a n e h = kept a n (number-refused a n e h)
 
 -- of words that are no head, and of words that are one
 module _ (h : List ℕ) (a : Answer) where

@@ -121,7 +121,7 @@ fn no_head() -> Loaded
 fn as_row(_words: &[u64]) {}
 
 // The records are 1,024 words.
-fn whole(records: &[u64; 1024])
+pub fn whole(records: &[u64; 1024])
     ensures { λ _. ⌜ length (now (records .entry)) ≡ 1024 ⌝ }
 {
     as_row(records);
