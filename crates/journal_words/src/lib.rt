@@ -111,7 +111,12 @@ pub fn send(
             extras: added,
         } => {
             write(sent.network, head, records);
-            *told = [network_words::flag_word(lost), network_words::flag_word(replayed), drawn as u64, added as u64];
+            *told = [
+                network_words::flag_word(lost),
+                network_words::flag_word(replayed),
+                drawn as u64,
+                added as u64,
+            ];
             0
         }
     }
