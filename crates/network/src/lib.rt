@@ -798,7 +798,7 @@ pub fn options_in(w: &[u64; queue::WORDS], head: Head, options: NetworkOptions) 
 
 impl Head {
     // The network of this head and these records.
-    fn with(self, words: [u64; queue::WORDS]) -> Network
+    pub fn with(self, words: [u64; queue::WORDS]) -> Network
         ensures { λ r. ⌜ r ≡ joined self words ⌝ }
     {
         let options = self.options;

@@ -1,0 +1,69 @@
+-- The 49 words of a state of plants, as the host lends them: n; 15 flags up; 15 flags partitioned; 15 ticks; crashes, restarts,
+-- reboots. Words that name no case have a refusal of their own. Assumes nothing.
+use Prim.Native.Nat.{ℕ}
+use mathlib.Core.Bool.{Bool, true, cond, _&&_}
+use mathlib.Core.List.{List, [], _∷_, _++_, map}
+use lib.Dec.{leb, eqb}
+use lib.ListN.{getD, take, drop}
+use Rattle.script.specs.declared.fault.Fault.{Fault}
+use Rattle.script.specs.declared.fault.Fault.the-variants.{Crash, Restart, Reboot, Partition, Heal, HealAll}
+use Rattle.plants.specs.State.{plantCount}
+use Rattle.plants.specs.declared.Plants.{Plants}
+use Rattle.plants.specs.declared.Origin.{Origin}
+use Rattle.plants.specs.declared.Origin.the-variants.{Replica, Client}
+
+-- flags and their words
+abbrev pub flagOf : ℕ → Bool
+flagOf w = eqb w 1
+
+unfoldable pub flagsIn : List ℕ → List Bool
+flagsIn ws = map flagOf ws
+
+abbrev pub bit : Bool → ℕ
+bit b = cond b 1 0
+
+unfoldable pub bits : List Bool → List ℕ
+bits fs = map bit fs
+
+unfoldable pub allBits : List ℕ → Bool
+allBits [] = true
+allBits (w ∷ ws) = leb w 1 && allBits ws
+
+-- the words of the flags are 0 or 1
+abbrev pub flagsFit : List ℕ → Bool
+flagsFit w = allBits (take 30 (drop 1 w))
+
+-- the ticks
+abbrev pub ticksIn : List ℕ → List ℕ
+ticksIn w = take 15 (drop 31 w)
+
+-- the state of the words, and the words of a state
+abbrev pub plantsIn : List ℕ → Plants
+plantsIn w =
+    record {
+      n = getD w 0 0;
+      up = flagsIn (take 15 (drop 1 w));
+      partitioned = flagsIn (take 15 (drop 16 w));
+      «stable_until» = ticksIn w;
+      crashes = getD w 46 0;
+      restarts = getD w 47 0;
+      reboots = getD w 48 0;
+    }
+
+abbrev pub wordsOf : Plants → List ℕ
+wordsOf s =
+    s .n ∷ (bits (s .up) ++ (bits (s .partitioned) ++ (s .«stable_until» ++ (s .crashes ∷ s .restarts ∷ s .reboots ∷ []))))
+
+-- what the words themselves answer, 0 if nothing: n is not 3 to 15, or a flag is neither 0 nor 1
+unfoldable pub shaped : List ℕ → ℕ
+shaped w = cond (plantCount (getD w 0 0)) (cond (flagsFit w) 0 42) 40
+
+-- the fault of a number from 0 to 5, and the sender of a sort
+unfoldable pub faultIn : ℕ → ℕ → Fault
+faultIn k id =
+    cond (eqb k 0) (Crash id)
+    (cond (eqb k 1) (Restart id)
+    (cond (eqb k 2) (Reboot id) (cond (eqb k 3) (Partition id) (cond (eqb k 4) (Heal id) HealAll))))
+
+unfoldable pub originIn : ℕ → ℕ → Origin
+originIn sort id = cond (eqb sort 0) (Replica id) (Client id)
