@@ -6,10 +6,10 @@ use Rattle.verdicts.specs.Verdicts.{propertyNumber, refusalNumber}
 use Rattle.verdicts.specs.declared.Answer.{Answer}
 use Rattle.verdicts.specs.declared.Answer.the-variants.{Pass, Broken, Refused}
 
-abbrev pub numberOf : Answer → ℕ
-numberOf Pass = 0
-numberOf (Broken p r i t) = 0
-numberOf (Refused e) = refusalNumber e
+abbrev pub answerNumber : Answer → ℕ
+answerNumber Pass = 0
+answerNumber (Broken p r i t) = 0
+answerNumber (Refused e) = refusalNumber e
 
 abbrev pub toldBy : Answer → List ℕ → List ℕ
 toldBy Pass told = 0 ∷ 0 ∷ 0 ∷ 0 ∷ []

@@ -4,14 +4,14 @@ use verdicts::Answer;
 ghost use mathlib.Core.Path.{_≡_};
 ghost use lib.ListN.{length};
 ghost use Rattle.properties.specs.Calls.{freshAnswer, freshWords, rebootAnswer, rebootWords, tickAnswer, tickWords, endAnswer};
-ghost use Rattle.property_words.specs.Told.{numberOf, toldBy};
+ghost use Rattle.property_words.specs.Told.{answerNumber, toldBy};
 
 // The words of an answer.
 pub const ANSWER_WORDS: usize = 4;
 
 // What a call answers, written to its four words.
 fn tell(answer: Answer, told: &mut [u64; 4]) -> u64
-    ensures answer { λ r. ⌜ r ≡ numberOf answer ⌝ }
+    ensures answer { λ r. ⌜ r ≡ answerNumber answer ⌝ }
     ensures told { λ _. ⌜ now (told .exit) ≡ toldBy answer (now (told .entry)) ⌝ }
 {
     match answer {
@@ -40,7 +40,7 @@ fn tell(answer: Answer, told: &mut [u64; 4]) -> u64
 
 // What a call answers that has nothing to tell.
 fn number(answer: Answer) -> u64
-    ensures { λ r. ⌜ r ≡ numberOf answer ⌝ }
+    ensures { λ r. ⌜ r ≡ answerNumber answer ⌝ }
 {
     match answer {
         Answer::Pass => 0,
@@ -56,7 +56,7 @@ fn number(answer: Answer) -> u64
 
 // A fresh tracker.
 pub fn fresh(n: u64, tracker: &mut [u64]) -> u64
-    ensures answer { λ r. ⌜ r ≡ numberOf (freshAnswer n (length (now (tracker .entry)))) ⌝ }
+    ensures answer { λ r. ⌜ r ≡ answerNumber (freshAnswer n (length (now (tracker .entry)))) ⌝ }
     ensures tracker { λ _. ⌜ now (tracker .exit) ≡ freshWords n (now (tracker .entry)) ⌝ }
 {
     number(properties::fresh(n as usize, tracker))
@@ -64,7 +64,7 @@ pub fn fresh(n: u64, tracker: &mut [u64]) -> u64
 
 // A plant came back without its memory.
 pub fn reboot(n: u64, id: u64, tracker: &mut [u64]) -> u64
-    ensures answer { λ r. ⌜ r ≡ numberOf (rebootAnswer n id (now (tracker .entry))) ⌝ }
+    ensures answer { λ r. ⌜ r ≡ answerNumber (rebootAnswer n id (now (tracker .entry))) ⌝ }
     ensures tracker { λ _. ⌜ now (tracker .exit) ≡ rebootWords n id (now (tracker .entry)) ⌝ }
 {
     number(properties::reboot(n as usize, id as usize, tracker))
@@ -72,7 +72,7 @@ pub fn reboot(n: u64, id: u64, tracker: &mut [u64]) -> u64
 
 // After a tick.
 pub fn tick(n: u64, plants: &[u64], logs: &[u64], tracker: &mut [u64], told: &mut [u64; 4]) -> u64
-    ensures answer { λ r. ⌜ r ≡ numberOf (tickAnswer n (now (plants .entry)) (now (logs .entry)) (now (tracker .entry))) ⌝ }
+    ensures answer { λ r. ⌜ r ≡ answerNumber (tickAnswer n (now (plants .entry)) (now (logs .entry)) (now (tracker .entry))) ⌝ }
     ensures tracker { λ _. ⌜ now (tracker .exit) ≡ tickWords n (now (plants .entry)) (now (logs .entry)) (now (tracker .entry)) ⌝ }
     ensures told { λ _. ⌜ now (told .exit) ≡ toldBy (tickAnswer n (now (plants .entry)) (now (logs .entry)) (now (tracker .entry))) (now (told .entry)) ⌝ }
 {
@@ -90,7 +90,7 @@ pub fn end(
     tracker: &[u64],
     told: &mut [u64; 4],
 ) -> u64
-    ensures answer { λ r. ⌜ r ≡ numberOf (endAnswer n (now (plants .entry)) (now (logs .entry)) (now (values .entry)) (now (core .entry)) (now (tracker .entry))) ⌝ }
+    ensures answer { λ r. ⌜ r ≡ answerNumber (endAnswer n (now (plants .entry)) (now (logs .entry)) (now (values .entry)) (now (core .entry)) (now (tracker .entry))) ⌝ }
     ensures told { λ _. ⌜ now (told .exit) ≡ toldBy (endAnswer n (now (plants .entry)) (now (logs .entry)) (now (values .entry)) (now (core .entry)) (now (tracker .entry))) (now (told .entry)) ⌝ }
 {
     let answer = properties::end(n as usize, plants, logs, values, core, tracker);
