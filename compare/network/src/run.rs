@@ -3,28 +3,11 @@
 //! (docs/RULES.md, "Refusal numbers"), tested here in the rules' order. What the Rust has there stands at each.
 
 use oracle::network::{Judge, Letter, NetworkOptions, Record};
+use replays::nets::{hash, hash_network, roomy, Options, LOST, PATTERN, PENDING, ROOM, SENT};
 
 /// Records that fit, and messages that can be sent.
 const CAPACITY: usize = 128;
 pub const SENT_LIMIT: u64 = 1 << 62;
-
-/// Words of an output, and what fills it before it is lent.
-pub const ROOM: usize = 1_040;
-const PATTERN: u64 = 0xa5a5_5a5a_c3c3_3c3c;
-
-/// The places of a network's words, as `put` numbers them.
-pub const PENDING: usize = 1_024;
-pub const SEQ: usize = 1_025;
-pub const SENT: usize = 1_026;
-pub const LOST: usize = 1_028;
-pub const DELAYED: usize = 1_030;
-pub const LOSS: usize = 1_031;
-pub const MIN: usize = 1_033;
-pub const MEAN: usize = 1_034;
-const FLAG: usize = 1_035;
-
-/// Loss bits, replay bits, min, mean, flag.
-pub type Options = [u64; 5];
 
 pub struct Run {
     judge: Judge,
@@ -68,9 +51,7 @@ impl Run {
     }
 
     fn add(&mut self, call: u64, refusal: u64, answer: [u64; 2], output: u64, rest: &[u64]) {
-        let options = hash(&self.network[LOSS..=FLAG], FIRST_HASH);
-        let counts = hash(&self.network[PENDING..LOSS], options);
-        let network = hash(&self.network[..PENDING], counts);
+        let network = hash_network(&self.network);
         let mut words = vec![call, refusal, answer[0], answer[1], output, network];
         words.extend(rest);
         self.calls.push(words);
@@ -235,7 +216,7 @@ impl Run {
             output[..words.len()].copy_from_slice(&words);
             0
         };
-        (refusal, hash(&output, FIRST_HASH))
+        (refusal, hash(&output))
     }
 
     fn put(&mut self, place: usize, value: u64) {
@@ -274,15 +255,6 @@ fn dues(after: &Judge, seq: u64) -> Vec<u64> {
     records.iter().map(|record| record[0]).collect()
 }
 
-/// How many they are, and a list in a room of four.
-fn roomy(list: &[u64]) -> Vec<u64> {
-    let mut words = vec![list.len() as u64];
-    words.extend(list);
-    assert!(words.len() <= 5);
-    words.resize(5, 0);
-    words
-}
-
 fn options_of(options: Options) -> NetworkOptions {
     NetworkOptions {
         packet_loss_probability: f64::from_bits(options[0]),
@@ -313,13 +285,4 @@ fn bad(options: Options) -> u64 {
             _ => 22,
         },
     }
-}
-
-const FIRST_HASH: u64 = 0xcbf2_9ce4_8422_2325;
-
-/// FNV-1a, with a word for a byte.
-fn hash(words: &[u64], first: u64) -> u64 {
-    words.iter().fold(first, |hash, word| {
-        (hash ^ word).wrapping_mul(0x100_0000_01b3)
-    })
 }

@@ -1,2 +1,6 @@
 -- Laws that belong to no one function, and the theorem.
+pub mod Words
+pub mod Journaled
+pub mod Takes
+pub mod Rewinds
 pub mod Night

@@ -206,10 +206,7 @@ pub fn take_due(network: Network, now: u64, out: &mut [u64], journal: &mut [u64]
     };
     let size = t * queue::RECORD_SIZE;
     if out.len() < size {
-        return Taken {
-            network: network,
-            answer: Counted::Refused(Refusal::ShortOutput),
-        };
+        return refused_take(network, Refusal::ShortOutput);
     }
     let Settled::Refused(refusal) = room_for(journal, size + undo::TAKE_WORDS) else {
         write_at(out, 0, &record[..size]);
@@ -218,6 +215,12 @@ pub fn take_due(network: Network, now: u64, out: &mut [u64], journal: &mut [u64]
         append(journal, &record[..size + undo::TAKE_WORDS]);
         return taken;
     };
+    refused_take(network, refusal)
+}
+
+fn refused_take(network: Network, refusal: Refusal) -> Taken
+    ensures { λ t. ⌜ (t .network ≡ network) × (countedOf (t .answer) ≡ counting (refused (number refusal)) 0) ⌝ }
+{
     Taken {
         network: network,
         answer: Counted::Refused(refusal),
@@ -247,8 +250,9 @@ pub fn rewind(network: Network, k: u64, journal: &mut [u64]) -> Next
     }
     journal[0] = held - k;
     journal[1] = before.start as u64;
+    let earlier = before.network;
     Next {
-        network: before.network,
+        network: earlier,
         answer: Settled::Done,
     }
 }

@@ -13,9 +13,9 @@ use Rattle.nights.specs.Draws.{Decided, fateOf}
 use Rattle.nights.specs.Journal.{Answer, done, refused, verdict, tests}
 use Rattle.queue.proofs.Inserting.{length-recs}
 use Rattle.network.specs.declared.Network.{Network}
-use Rattle.network.specs.Answers.{sending, fateAnswer}
+use Rattle.network.specs.Answers.{counting, sending, fateAnswer}
 use Rattle.network.specs.Forms.{plainOf, structOf, isFormed}
-use Rattle.network.specs.Calls.{settling, callAnswer, callNetwork, formAnswer, listAnswer}
+use Rattle.network.specs.Calls.{settling, callAnswer, callNetwork, formAnswer, listAnswer, written}
 use Rattle.network.proofs.WholeForm.{first, second}
 
 module _ (s : Network) where
@@ -62,6 +62,17 @@ module _ (s : Network) where
     pub follows : callAnswer c s ≡ done → structOf (effect fateOf c (plainOf s)) ≡ callNetwork c s
     unfolding callNetwork settling
     follows e = rw e
+
+    -- what a refused send and a refused take tell, and hand back
+    pub unsent : (d : Decided) (k : ℕ) → callAnswer c s ≡ refused k
+        → (s ≡ callNetwork c s) × (record { answer = refused k; lost = 0; replayed = 0; draws = 0; extras = 0 } ≡ sending (callAnswer c s) d)
+    unfolding sending
+    unsent d k e = (stays k e, rw e)
+
+    pub untaken : (n : ℕ) (words out : List ℕ) (k : ℕ) → callAnswer c s ≡ refused k
+        → (s ≡ callNetwork c s) × ((record { answer = refused k; records = 0 } ≡ counting (callAnswer c s) n) × (out ≡ written (callAnswer c s) words out))
+    unfolding counting written
+    untaken n words out k e = (stays k e, (rw e, rw e))
 
   module _ (f : isFormed s ≡ true) where
     -- ---- a take

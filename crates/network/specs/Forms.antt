@@ -9,7 +9,7 @@ use Rattle.nights.specs.Record.{Record, recordSize, recs}
 use Rattle.nights.specs.Net.{capacity, Network as Plain, Letter, every, goodRecord, rising, wellFormed}
 use Rattle.queue.specs.Form.{zeros}
 use Rattle.queue.specs.Packed.{packed}
-use Rattle.network.specs.declared.NetworkOptions.{NetworkOptions}
+use Rattle.network.specs.declared.Head.{Head}
 use Rattle.network.specs.declared.Network.{Network}
 use Rattle.network.specs.declared.Letter.{Letter as Told}
 use Rattle.network.specs.Options.{plainOptions, structOptions}
@@ -46,21 +46,33 @@ unfoldable pub isFormed : Network → Bool
 isFormed s =
     wellFormed (plainOf s) && (leb (s .pending) capacity && zeros (drop (recordSize * s .pending) (s .words)))
 
--- the same of a network whose words are lent
-abbrev pub isFormedOf : NetworkOptions → List ℕ → (pending seq sent delivered lost replayed delayed : ℕ) → Bool
-isFormedOf o w p q s d l r y =
-    isFormed
-    (record {
-      options = o;
+-- a network without its records, and the network of such a head and lent words
+abbrev pub headOf : Network → Head
+headOf s =
+    record {
+      options = s .options;
+      pending = s .pending;
+      seq = s .seq;
+      sent = s .sent;
+      delivered = s .delivered;
+      lost = s .lost;
+      replayed = s .replayed;
+      delayed = s .delayed;
+    }
+
+abbrev pub joined : Head → List ℕ → Network
+joined h w =
+    record {
+      options = h .options;
       words = w;
-      pending = p;
-      seq = q;
-      sent = s;
-      delivered = d;
-      lost = l;
-      replayed = r;
-      delayed = y;
-    })
+      pending = h .pending;
+      seq = h .seq;
+      sent = h .sent;
+      delivered = h .delivered;
+      lost = h .lost;
+      replayed = h .replayed;
+      delayed = h .delayed;
+    }
 
 -- the part of it that speaks of the records
 unfoldable pub recordsFormed : List ℕ → ℕ → ℕ → Bool

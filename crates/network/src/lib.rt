@@ -17,7 +17,7 @@ ghost use Rattle.queue.specs.Plain.{plainRecord};
 ghost use Rattle.queue.specs.Places.{insertedAll};
 ghost use Rattle.network.specs.Options.{plainOptions, structOptions, perfectOptions};
 ghost use Rattle.network.specs.Answers.{settledOf, countedOf, sentOf, decisionOf, tickOf, counting, sending, fateAnswer, tickFrom};
-ghost use Rattle.network.specs.Forms.{plainOf, structOf, letterOf, plainLetter, copyAt, isFormedOf, recordsFormed};
+ghost use Rattle.network.specs.Forms.{plainOf, structOf, headOf, joined, letterOf, plainLetter, copyAt, isFormed, recordsFormed};
 ghost use Rattle.network.specs.Calls.{firstNetwork, callAnswer, callNetwork, formAnswer, listAnswer, written};
 
 // The kinds of a message, as the host names them.
@@ -115,6 +115,34 @@ pub struct Taken {
 
 pub struct Sent {
     pub network: Network,
+    pub answer: SendAnswer,
+}
+
+// A network without its records: the part of it that goes by value where the records are lent.
+pub struct Head {
+    pub options: NetworkOptions,
+    pub pending: usize,
+    pub seq: u64,
+    pub sent: u64,
+    pub delivered: u64,
+    pub lost: u64,
+    pub replayed: u64,
+    pub delayed: u64,
+}
+
+// The head that follows a call on lent records, with the call's answer.
+pub struct HeadNext {
+    pub head: Head,
+    pub answer: Settled,
+}
+
+pub struct HeadTaken {
+    pub head: Head,
+    pub answer: Counted,
+}
+
+pub struct HeadSent {
+    pub head: Head,
     pub answer: SendAnswer,
 }
 
@@ -260,27 +288,26 @@ fn records_good(w: &[u64; queue::WORDS], n: usize, seq: u64) -> bool
 }
 
 // Whether a network is well formed: its words lent, the rest of it by value.
-fn formed(
-    w: &[u64; queue::WORDS],
-    options: NetworkOptions,
-    pending: usize,
-    seq: u64,
-    sent: u64,
-    delivered: u64,
-    lost: u64,
-    replayed: u64,
-    delayed: u64,
-) -> bool
+pub fn formed(w: &[u64; queue::WORDS], head: Head) -> bool
     requires { ⌜ length (now w) ≡ 1024 ⌝ }
-    ensures { λ b. ⌜ b ≡ isFormedOf options (now (w .entry)) pending seq sent delivered lost replayed delayed ⌝ }
+    ensures { λ b. ⌜ b ≡ isFormed (joined head (now (w .entry))) ⌝ }
 {
+    let options = head.options;
     let Settled::Done = options.validate() else {
         return false;
     };
-    if !counts_good(pending, seq, sent, delivered, lost, replayed, delayed) {
+    if !counts_good(
+        head.pending,
+        head.seq,
+        head.sent,
+        head.delivered,
+        head.lost,
+        head.replayed,
+        head.delayed,
+    ) {
         return false;
     }
-    records_good(w, pending, seq)
+    records_good(w, head.pending, head.seq)
 }
 
 // ---- The fate of a message
@@ -595,13 +622,222 @@ fn queue_copies(w: &mut [u64; queue::WORDS], n: usize, seq: u64, letter: Letter,
     }
 }
 
+// ---- The calls on lent records
+
+// A send on a well-formed network.
+pub fn send_on(
+    w: &mut [u64; queue::WORDS],
+    head: Head,
+    now: u64,
+    sort: u64,
+    origin: u64,
+    to: u64,
+    kind: u64,
+    handle: u64,
+    draws: &[u64],
+    extras: &[u64],
+) -> HeadSent
+    requires { ⌜ (length (w .now) ≡ 1024) × (isFormed (joined head (w .now)) ≡ true) ⌝ }
+    ensures network { λ t. ⌜ joined (t .head) (w .exit .now) ≡ callNetwork (send (letterOf now sort origin to kind handle) (draws .entry .now) (extras .entry .now)) (joined head (w .entry .now)) ⌝ }
+    ensures answer { λ t. ⌜ sentOf (t .answer) ≡ sending (callAnswer (send (letterOf now sort origin to kind handle) (draws .entry .now) (extras .entry .now)) (joined head (w .entry .now))) (decided (plainOptions (head .options)) now kind (draws .entry .now) (extras .entry .now)) ⌝ }
+{
+    if queue::LAST_KIND < kind {
+        return HeadSent {
+            head: head,
+            answer: SendAnswer::Refused(Refusal::BadKindOrSort),
+        };
+    }
+    if queue::LAST_SORT < sort {
+        return HeadSent {
+            head: head,
+            answer: SendAnswer::Refused(Refusal::BadKindOrSort),
+        };
+    }
+    if Network::SENT_LIMIT <= head.sent {
+        return HeadSent {
+            head: head,
+            answer: SendAnswer::Refused(Refusal::SentLimit),
+        };
+    }
+    let decision = decide(head.options, now, kind, draws, extras);
+    let told = told_by(decision);
+    let SendAnswer::Accepted {
+        lost: _,
+        replayed: _,
+        draws: _,
+        extras: _,
+    } = told
+    else {
+        return HeadSent {
+            head: head,
+            answer: told,
+        };
+    };
+    let n = head.pending;
+    let copies = copies_by(decision);
+    if queue::CAPACITY < n + copies {
+        return HeadSent {
+            head: head,
+            answer: SendAnswer::Refused(Refusal::Full),
+        };
+    }
+    let letter = Letter {
+        now: now,
+        sort: sort,
+        origin: origin,
+        to: to,
+        kind: kind,
+        handle: handle,
+    };
+    let seq = head.seq;
+    queue_copies(w, n, seq, letter, decision);
+    let mut next = head;
+    next.pending = n + copies;
+    next.seq = seq + copies as u64;
+    next.sent = next.sent + 1;
+    next.lost = next.lost + lost_by(decision);
+    next.replayed = next.replayed + replayed_by(decision);
+    next.delayed = next.delayed + delayed_by(decision);
+    HeadSent {
+        head: next,
+        answer: told,
+    }
+}
+
+// A send.
+pub fn send_in(
+    w: &mut [u64; queue::WORDS],
+    head: Head,
+    now: u64,
+    sort: u64,
+    origin: u64,
+    to: u64,
+    kind: u64,
+    handle: u64,
+    draws: &[u64],
+    extras: &[u64],
+) -> HeadSent
+    requires { ⌜ length (w .now) ≡ 1024 ⌝ }
+    ensures network { λ t. ⌜ joined (t .head) (w .exit .now) ≡ callNetwork (send (letterOf now sort origin to kind handle) (draws .entry .now) (extras .entry .now)) (joined head (w .entry .now)) ⌝ }
+    ensures answer { λ t. ⌜ sentOf (t .answer) ≡ sending (callAnswer (send (letterOf now sort origin to kind handle) (draws .entry .now) (extras .entry .now)) (joined head (w .entry .now))) (decided (plainOptions (head .options)) now kind (draws .entry .now) (extras .entry .now)) ⌝ }
+{
+    if formed(w, head) {
+        return send_on(w, head, now, sort, origin, to, kind, handle, draws, extras);
+    }
+    HeadSent {
+        head: head,
+        answer: SendAnswer::Refused(Refusal::IllFormed),
+    }
+}
+
+// A take on a well-formed network.
+pub fn take_on(w: &mut [u64; queue::WORDS], head: Head, now: u64, out: &mut [u64]) -> HeadTaken
+    requires { ⌜ (length (w .now) ≡ 1024) × (isFormed (joined head (w .now)) ≡ true) ⌝ }
+    ensures network { λ t. ⌜ joined (t .head) (w .exit .now) ≡ callNetwork (take now (length (out .entry .now))) (joined head (w .entry .now)) ⌝ }
+    ensures answer { λ t. ⌜ countedOf (t .answer) ≡ counting (callAnswer (take now (length (out .entry .now))) (joined head (w .entry .now))) (length (keep (isDue now) (plainOf (joined head (w .entry .now)) .pending))) ⌝ }
+    ensures out { λ _. ⌜ out .exit .now ≡ written (callAnswer (take now (length (out .entry .now))) (joined head (w .entry .now))) (wordsOf (keep (isDue now) (plainOf (joined head (w .entry .now)) .pending))) (out .entry .now) ⌝ }
+{
+    let n = head.pending;
+    let k = queue::due_front(w, n, now);
+    if out.len() < k * queue::RECORD_SIZE {
+        return HeadTaken {
+            head: head,
+            answer: Counted::Refused(Refusal::ShortOutput),
+        };
+    }
+    queue::take_from(w, n, now, k, out);
+    let mut next = head;
+    next.pending = n - k;
+    next.delivered = next.delivered + k as u64;
+    HeadTaken {
+        head: next,
+        answer: Counted::Records(k),
+    }
+}
+
+// A take.
+pub fn take_in(w: &mut [u64; queue::WORDS], head: Head, now: u64, out: &mut [u64]) -> HeadTaken
+    requires { ⌜ length (w .now) ≡ 1024 ⌝ }
+    ensures network { λ t. ⌜ joined (t .head) (w .exit .now) ≡ callNetwork (take now (length (out .entry .now))) (joined head (w .entry .now)) ⌝ }
+    ensures answer { λ t. ⌜ countedOf (t .answer) ≡ counting (callAnswer (take now (length (out .entry .now))) (joined head (w .entry .now))) (length (keep (isDue now) (plainOf (joined head (w .entry .now)) .pending))) ⌝ }
+    ensures out { λ _. ⌜ out .exit .now ≡ written (callAnswer (take now (length (out .entry .now))) (joined head (w .entry .now))) (wordsOf (keep (isDue now) (plainOf (joined head (w .entry .now)) .pending))) (out .entry .now) ⌝ }
+{
+    if formed(w, head) {
+        return take_on(w, head, now, out);
+    }
+    HeadTaken {
+        head: head,
+        answer: Counted::Refused(Refusal::IllFormed),
+    }
+}
+
+// A change of the options. The records stay.
+pub fn options_in(w: &[u64; queue::WORDS], head: Head, options: NetworkOptions) -> HeadNext
+    requires { ⌜ length (now w) ≡ 1024 ⌝ }
+    ensures network { λ t. ⌜ joined (t .head) (now (w .entry)) ≡ callNetwork (choose (plainOptions options)) (joined head (now (w .entry))) ⌝ }
+    ensures answer { λ t. ⌜ settledOf (t .answer) ≡ callAnswer (choose (plainOptions options)) (joined head (now (w .entry))) ⌝ }
+{
+    if !formed(w, head) {
+        return HeadNext {
+            head: head,
+            answer: Settled::Refused(Refusal::IllFormed),
+        };
+    }
+    let answer = options.validate();
+    let mut next = head;
+    if let Settled::Done = answer {
+        next.options = options;
+    }
+    HeadNext {
+        head: next,
+        answer: answer,
+    }
+}
+
 // ---- The network
+
+impl Head {
+    // The network of this head and these records.
+    pub fn with(self, words: [u64; queue::WORDS]) -> Network
+        ensures { λ r. ⌜ r ≡ joined self words ⌝ }
+    {
+        let options = self.options;
+        Network {
+            options: options,
+            words: words,
+            pending: self.pending,
+            seq: self.seq,
+            sent: self.sent,
+            delivered: self.delivered,
+            lost: self.lost,
+            replayed: self.replayed,
+            delayed: self.delayed,
+        }
+    }
+}
 
 impl Network {
     // Messages that can be in flight, and messages that can be sent.
     pub const CAPACITY: usize = queue::CAPACITY;
 
     pub const SENT_LIMIT: u64 = 0x4000_0000_0000_0000;
+
+    // The network without its records.
+    pub fn head(self) -> Head
+        ensures { λ r. ⌜ r ≡ headOf self ⌝ }
+    {
+        let options = self.options;
+        Head {
+            options: options,
+            pending: self.pending,
+            seq: self.seq,
+            sent: self.sent,
+            delivered: self.delivered,
+            lost: self.lost,
+            replayed: self.replayed,
+            delayed: self.delayed,
+        }
+    }
 
     // A fresh network of these options: nothing in flight, nothing counted. Beside a refusal stands that of the perfect options.
     pub fn new(options: NetworkOptions) -> Next
@@ -625,33 +861,13 @@ impl Network {
         ensures network { λ t. ⌜ t .network ≡ callNetwork (choose (plainOptions options)) self ⌝ }
         ensures answer { λ t. ⌜ settledOf (t .answer) ≡ callAnswer (choose (plainOptions options)) self ⌝ }
     {
-        let mut me = self;
-        if !formed(
-            &me.words,
-            me.options,
-            me.pending,
-            me.seq,
-            me.sent,
-            me.delivered,
-            me.lost,
-            me.replayed,
-            me.delayed,
-        ) {
-            return Next {
-                network: me,
-                answer: Settled::Refused(Refusal::IllFormed),
-            };
-        }
-        let Settled::Refused(refusal) = options.validate() else {
-            me.options = options;
-            return Next {
-                network: me,
-                answer: Settled::Done,
-            };
-        };
+        let words = self.words;
+        let next = options_in(&words, self.head(), options);
+        let head = next.head;
+        let answer = next.answer;
         Next {
-            network: me,
-            answer: Settled::Refused(refusal),
+            network: head.with(words),
+            answer: answer,
         }
     }
 
@@ -659,19 +875,9 @@ impl Network {
     pub fn pending(self) -> Counted
         ensures { λ r. ⌜ countedOf r ≡ counting (formAnswer self) (length (plainOf self .pending)) ⌝ }
     {
-        let me = self;
-        if formed(
-            &me.words,
-            me.options,
-            me.pending,
-            me.seq,
-            me.sent,
-            me.delivered,
-            me.lost,
-            me.replayed,
-            me.delayed,
-        ) {
-            return Counted::Records(me.pending);
+        let words = self.words;
+        if formed(&words, self.head()) {
+            return Counted::Records(self.pending);
         }
         Counted::Refused(Refusal::IllFormed)
     }
@@ -681,25 +887,15 @@ impl Network {
         ensures answer { λ r. ⌜ countedOf r ≡ counting (listAnswer self (length (now (out .entry)))) (length (plainOf self .pending)) ⌝ }
         ensures out { λ _. ⌜ now (out .exit) ≡ written (listAnswer self (length (now (out .entry)))) (wordsOf (plainOf self .pending)) (now (out .entry)) ⌝ }
     {
-        let me = self;
-        if !formed(
-            &me.words,
-            me.options,
-            me.pending,
-            me.seq,
-            me.sent,
-            me.delivered,
-            me.lost,
-            me.replayed,
-            me.delayed,
-        ) {
+        let words = self.words;
+        if !formed(&words, self.head()) {
             return Counted::Refused(Refusal::IllFormed);
         }
-        let n = me.pending;
+        let n = self.pending;
         if out.len() < n * queue::RECORD_SIZE {
             return Counted::Refused(Refusal::ShortOutput);
         }
-        queue::copy_out(&me.words, n * queue::RECORD_SIZE, out);
+        queue::copy_out(&words, n * queue::RECORD_SIZE, out);
         Counted::Records(n)
     }
 
@@ -709,37 +905,13 @@ impl Network {
         ensures answer { λ t. ⌜ countedOf (t .answer) ≡ counting (callAnswer (take now (length (out .entry .now))) self) (length (keep (isDue now) (plainOf self .pending))) ⌝ }
         ensures out { λ _. ⌜ out .exit .now ≡ written (callAnswer (take now (length (out .entry .now))) self) (wordsOf (keep (isDue now) (plainOf self .pending))) (out .entry .now) ⌝ }
     {
-        let mut me = self;
-        if !formed(
-            &me.words,
-            me.options,
-            me.pending,
-            me.seq,
-            me.sent,
-            me.delivered,
-            me.lost,
-            me.replayed,
-            me.delayed,
-        ) {
-            return Taken {
-                network: me,
-                answer: Counted::Refused(Refusal::IllFormed),
-            };
-        }
-        let n = me.pending;
-        let k = queue::due_front(&me.words, n, now);
-        if out.len() < k * queue::RECORD_SIZE {
-            return Taken {
-                network: me,
-                answer: Counted::Refused(Refusal::ShortOutput),
-            };
-        }
-        queue::take_from(&mut me.words, n, now, k, out);
-        me.pending = n - k;
-        me.delivered = me.delivered + k as u64;
+        let mut words = self.words;
+        let taken = take_in(&mut words, self.head(), now, out);
+        let head = taken.head;
+        let answer = taken.answer;
         Taken {
-            network: me,
-            answer: Counted::Records(k),
+            network: head.with(words),
+            answer: answer,
         }
     }
 
@@ -758,82 +930,24 @@ impl Network {
         ensures network { λ t. ⌜ t .network ≡ callNetwork (send (letterOf now sort origin to kind handle) (draws .entry .now) (extras .entry .now)) self ⌝ }
         ensures answer { λ t. ⌜ sentOf (t .answer) ≡ sending (callAnswer (send (letterOf now sort origin to kind handle) (draws .entry .now) (extras .entry .now)) self) (decided (plainOf self .options) now kind (draws .entry .now) (extras .entry .now)) ⌝ }
     {
-        let mut me = self;
-        if !formed(
-            &me.words,
-            me.options,
-            me.pending,
-            me.seq,
-            me.sent,
-            me.delivered,
-            me.lost,
-            me.replayed,
-            me.delayed,
-        ) {
-            return Sent {
-                network: me,
-                answer: SendAnswer::Refused(Refusal::IllFormed),
-            };
-        }
-        if queue::LAST_KIND < kind {
-            return Sent {
-                network: me,
-                answer: SendAnswer::Refused(Refusal::BadKindOrSort),
-            };
-        }
-        if queue::LAST_SORT < sort {
-            return Sent {
-                network: me,
-                answer: SendAnswer::Refused(Refusal::BadKindOrSort),
-            };
-        }
-        if Network::SENT_LIMIT <= me.sent {
-            return Sent {
-                network: me,
-                answer: SendAnswer::Refused(Refusal::SentLimit),
-            };
-        }
-        let decision = decide(me.options, now, kind, draws, extras);
-        let told = told_by(decision);
-        let SendAnswer::Accepted {
-            lost: _,
-            replayed: _,
-            draws: _,
-            extras: _,
-        } = told
-        else {
-            return Sent {
-                network: me,
-                answer: told,
-            };
-        };
-        let n = me.pending;
-        let copies = copies_by(decision);
-        if queue::CAPACITY < n + copies {
-            return Sent {
-                network: me,
-                answer: SendAnswer::Refused(Refusal::Full),
-            };
-        }
-        let letter = Letter {
-            now: now,
-            sort: sort,
-            origin: origin,
-            to: to,
-            kind: kind,
-            handle: handle,
-        };
-        let seq = me.seq;
-        queue_copies(&mut me.words, n, seq, letter, decision);
-        me.pending = n + copies;
-        me.seq = seq + copies as u64;
-        me.sent = me.sent + 1;
-        me.lost = me.lost + lost_by(decision);
-        me.replayed = me.replayed + replayed_by(decision);
-        me.delayed = me.delayed + delayed_by(decision);
+        let mut words = self.words;
+        let sent = send_in(
+            &mut words,
+            self.head(),
+            now,
+            sort,
+            origin,
+            to,
+            kind,
+            handle,
+            draws,
+            extras,
+        );
+        let head = sent.head;
+        let answer = sent.answer;
         Sent {
-            network: me,
-            answer: told,
+            network: head.with(words),
+            answer: answer,
         }
     }
 }

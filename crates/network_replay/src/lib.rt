@@ -32,15 +32,15 @@ ghost use lib.ListN.{length};
 const LONGEST: usize = 22;
 
 // The words of an output.
-const ROOM: usize = 1040;
+pub const ROOM: usize = 1040;
 
 // What an output is filled with.
-const PATTERN: u64 = 0xa5a5_5a5a_c3c3_3c3c;
+pub const PATTERN: u64 = 0xa5a5_5a5a_c3c3_3c3c;
 
 // The bits of 2, and where a hash begins.
 const NO_PROBABILITY: u64 = 0x4000_0000_0000_0000;
 
-const FIRST_HASH: u64 = 0xcbf2_9ce4_8422_2325;
+pub const FIRST_HASH: u64 = 0xcbf2_9ce4_8422_2325;
 
 // Where the tally has each outcome that is no refusal; the refusals 20 to 30 stand from 0 on.
 const MADE: usize = 11;
@@ -91,7 +91,7 @@ pub struct Done {
 }
 
 // One more. No list is long enough to wrap.
-fn one_more(n: u64) -> u64 {
+pub fn one_more(n: u64) -> u64 {
     std::num::wrapping_add_u64(n, 1)
 }
 
@@ -110,7 +110,7 @@ fn stir(hash: u64, word: u64) -> u64 {
     add(add(high, middle), add(low, h))
 }
 
-fn hash_words(words: &[u64], hash: u64) -> u64 {
+pub fn hash_words(words: &[u64], hash: u64) -> u64 {
     let mut h = hash;
     let mut i: usize = 0;
     while i < words.len() {
@@ -120,7 +120,7 @@ fn hash_words(words: &[u64], hash: u64) -> u64 {
     h
 }
 
-fn hash_output(output: [u64; 1040]) -> u64 {
+pub fn hash_output(output: [u64; 1040]) -> u64 {
     let words = output;
     hash_words(&words[..], FIRST_HASH)
 }
@@ -146,7 +146,7 @@ fn flag_word(flag: bool) -> u64 {
     0
 }
 
-fn hash_options(options: NetworkOptions) -> u64 {
+pub fn hash_options(options: NetworkOptions) -> u64 {
     let loss = stir(FIRST_HASH, bits_of(options.packet_loss_probability));
     let replay = stir(loss, bits_of(options.packet_replay_probability));
     let min = stir(replay, options.one_way_delay_min);
@@ -154,7 +154,7 @@ fn hash_options(options: NetworkOptions) -> u64 {
     stir(mean, flag_word(options.fault_client_messages))
 }
 
-fn hash_network(network: Network) -> u64 {
+pub fn hash_network(network: Network) -> u64 {
     let options = hash_options(network.options);
     let pending = stir(options, network.pending as u64);
     let seq = stir(pending, network.seq);
@@ -188,7 +188,7 @@ fn number_of(refusal: Refusal) -> u64 {
     }
 }
 
-fn options_of(case: [u64; 22]) -> NetworkOptions {
+pub fn options_of(case: [u64; 22]) -> NetworkOptions {
     NetworkOptions {
         packet_loss_probability: probability(case[6]),
         packet_replay_probability: probability(case[7]),
@@ -198,7 +198,7 @@ fn options_of(case: [u64; 22]) -> NetworkOptions {
     }
 }
 
-fn settled(network: Network, answer: Settled) -> Done {
+pub fn settled(network: Network, answer: Settled) -> Done {
     let refusal = match answer {
         Settled::Done => 0,
         Settled::Refused(refusal) => number_of(refusal),
@@ -212,7 +212,7 @@ fn settled(network: Network, answer: Settled) -> Done {
     }
 }
 
-fn counted(network: Network, answer: Counted, output: u64) -> Done {
+pub fn counted(network: Network, answer: Counted, output: u64) -> Done {
     match answer {
         Counted::Records(n) => Done {
             network,
@@ -242,7 +242,7 @@ fn used_word(draws: usize, extras: usize) -> u64 {
     add((draws as u64) << 4, extras as u64)
 }
 
-fn sent(network: Network, answer: SendAnswer) -> Done {
+pub fn sent(network: Network, answer: SendAnswer) -> Done {
     match answer {
         SendAnswer::Accepted {
             lost,
@@ -266,7 +266,7 @@ fn sent(network: Network, answer: SendAnswer) -> Done {
     }
 }
 
-fn call_new(case: [u64; 22]) -> Done {
+pub fn call_new(case: [u64; 22]) -> Done {
     let next = Network::new(options_of(case));
     let answer = next.answer;
     settled(next.network, answer)
@@ -279,7 +279,7 @@ fn call_options(network: Network, case: [u64; 22]) -> Done {
 }
 
 // A call that no list has.
-fn no_call(network: Network) -> Done {
+pub fn no_call(network: Network) -> Done {
     Done {
         network,
         refusal: 99,
@@ -335,7 +335,7 @@ fn call_in_flight(network: Network, room: usize) -> Done {
 
 // A network of which one word is set: below 1,024 of its records, then pending, seq, the five counters and
 // the options.
-fn put(network: Network, place: usize, value: u64) -> Network {
+pub fn put(network: Network, place: usize, value: u64) -> Network {
     let mut next = network;
     if place < queue::WORDS {
         next.words[place] = value;
@@ -412,7 +412,7 @@ fn call(network: Network, case: [u64; 22]) -> Done {
 }
 
 // Whether a call gave what is expected.
-fn agrees(done: Done, case: [u64; 22]) -> bool {
+pub fn agrees(done: Done, case: [u64; 22]) -> bool {
     if done.refusal != case[1] {
         return false;
     }
@@ -510,7 +510,7 @@ impl Tally {
     }
 
     // With one difference more.
-    fn differs(self) -> Tally {
+    pub fn differs(self) -> Tally {
         let mut next = self;
         next.differing = one_more(next.differing);
         next
@@ -538,7 +538,7 @@ impl Tally {
     }
 
     // With one call more, which made this network of the one before.
-    fn met_by(self, before: Network, after: Network, case: [u64; 22]) -> Tally {
+    pub fn met_by(self, before: Network, after: Network, case: [u64; 22]) -> Tally {
         let mut next = self;
         next.calls = one_more(next.calls);
         if case[1] != 0 {
@@ -575,14 +575,14 @@ fn half(list: &[u8], at: usize) -> u64
 }
 
 // A word from eight bytes.
-fn word(list: &[u8], at: usize) -> u64
+pub fn word(list: &[u8], at: usize) -> u64
     requires { ⌜ at + 8 ≤ length (now list) ⌝ }
 {
     half(list, at) + 4294967296 * half(list, at + 4)
 }
 
 // The words of a call, and zeros.
-fn case_at(list: &[u8], at: usize, count: usize) -> [u64; 22]
+pub fn case_at(list: &[u8], at: usize, count: usize) -> [u64; 22]
     requires { ⌜ (count ≤ 22) × (at + 8 * count ≤ length (now list)) ⌝ }
 {
     let mut words = [0u64; 22];

@@ -7,6 +7,7 @@ use Rattle.nights.proofs.Kept.{counts}
 use Rattle.network.specs.declared.Network.{Network}
 use Rattle.network.specs.Options.{plainOptions}
 use Rattle.network.specs.Answers.{settledOf}
+use Rattle.network.specs.Forms.{joined}
 use Rattle.network.proofs.OptionForms.{good-done, refused-bad}
 use Rattle.network.proofs.WholeForm.{options-fail, counts-fail, all-told}
 use borrow.Author.Needs.{needs}
@@ -15,22 +16,11 @@ use Rattle.network.proofs.formed.Tie as tie
 
 -- the network whose words are lent
 abbrev whole : (c : tie.Start) → Network
-whole c =
-    record {
-      options = c .args .options;
-      words = c .args .w .now;
-      pending = c .args .pending;
-      seq = c .args .seq;
-      sent = c .args .sent;
-      delivered = c .args .delivered;
-      lost = c .args .lost;
-      replayed = c .args .replayed;
-      delayed = c .args .delayed;
-    }
+whole c = joined (c .args .head) (c .args .w .now)
 
-options-good : (c : tie.After-enum-told) → goodOptions (plainOptions (c .before .before .before .args .options)) ≡ true
+options-good : (c : tie.After-enum-told) → goodOptions (plainOptions (c .before .before .before .before .args .head .options)) ≡ true
 options-good c =
-    good-done (plainOptions (c .before .before .before .args .options))
+    good-done (plainOptions (c .before .before .before .before .args .head .options))
     (sym (c .before .before .validate .ensures) ∙ ap settledOf (c .enum-told .given .1))
 
 validate-requires : tie.Need-validate-requires
@@ -44,21 +34,23 @@ enum-told-2 c = search needs
 
 returns : tie.Need-returns
 returns c =
-    options-fail (whole (c .before .before .before))
-    (refused-bad (plainOptions (c .before .before .before .args .options)) _ (sym (c .before .before .validate .ensures) ∙ ap settledOf (c .enum-told2 .given .1)))
+    options-fail (whole (c .before .before .before .before))
+    (refused-bad (plainOptions (c .before .before .before .before .args .head .options)) _ (sym (c .before .before .validate .ensures) ∙ ap settledOf (c .enum-told2 .given .1)))
 
 counts-good-requires : tie.Need-counts-good-requires
 counts-good-requires c κs = search needs
 
 returns-2 : tie.Need-returns-2
-returns-2 c = counts-fail (whole (c .before .before .before .before .before)) (options-good (c .before .before)) (sym (c .before .counts-good .ensures) ∙ not-true _ (c .if1 .taken))
+returns-2 c = counts-fail (whole (c .before .before .before .before .before .before)) (options-good (c .before .before)) (sym (c .before .counts-good .ensures) ∙ not-true _ (c .if1 .taken))
 
 records-good-requires : tie.Need-records-good-requires
-records-good-requires c κs = (c .before .before .before .before .before .pre, counts (c .before .before .before .before .before .args .pending) (c .before .before .before .before .before .args .seq) (c .before .before .before .before .before .args .sent) (c .before .before .before .before .before .args .delivered) (c .before .before .before .before .before .args .lost) (c .before .before .before .before .before .args .replayed) (c .before .before .before .before .before .args .delayed) (sym (c .before .counts-good .ensures) ∙ not-false _ (c .if1 .left)) .small)
+records-good-requires c κs =
+    let h = c .before .before .before .before .before .before .args .head in
+    (c .before .before .before .before .before .before .pre, counts (h .pending) (h .seq) (h .sent) (h .delivered) (h .lost) (h .replayed) (h .delayed) (sym (c .before .counts-good .ensures) ∙ not-false _ (c .if1 .left)) .small)
 
 returns-3 : tie.Need-returns-3
 returns-3 c =
-    all-told (whole (c .before .before .before .before .before .before)) (options-good (c .before .before .before)) (sym (c .before .before .counts-good .ensures) ∙ not-false _ (c .before .if1 .left))
+    all-told (whole (c .before .before .before .before .before .before .before)) (options-good (c .before .before .before)) (sym (c .before .before .counts-good .ensures) ∙ not-false _ (c .before .if1 .left))
     (c .records-good .ensures)
 
 pub formed-spec : {M : Type 1} → statement M

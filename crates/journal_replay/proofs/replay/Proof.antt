@@ -1,0 +1,75 @@
+-- `journal_replay::replay` is safe and ends: each call ends further on and within the list, and the journal stays within the words.
+-- Assumes nothing.
+use native.Mathlib.Omega.{arith}
+use borrow.Author.Needs.{needs}
+use mathlib.Core.Path.{_≡_, refl}
+use Prim.Native.Nat.{_-_, _≤_}
+use lib.ListN.{length}
+use Rattle.journal_replay.proofs.replay.Statement.{statement}
+use Rattle.journal_replay.proofs.replay.Tie as tie
+
+abbrev Inv-loop : tie.InvT-loop
+Inv-loop list words₀ tally₀ network₀ room₀ forged₀ at₀ words tally network room forged at =
+    (at ≤ length list) × (room ≤ length words₀) × (length words ≡ length words₀)
+
+abbrev μ-loop : tie.MeasureT-loop
+μ-loop list words₀ tally₀ network₀ room₀ forged₀ at₀ words tally network room forged at = length list - at
+
+new-requires : tie.Need-new-requires Inv-loop μ-loop
+new-requires c κs = tt
+
+perfect-requires : tie.Need-perfect-requires Inv-loop μ-loop
+perfect-requires c κs = tt
+
+new-requires-2 : tie.Need-new-requires-2 Inv-loop μ-loop
+new-requires-2 c κs = tt
+
+loop-holds : tie.Need-loop-holds Inv-loop μ-loop
+loop-holds c = (omega arith, omega arith, refl)
+
+sub-if1 : tie.Need-sub-if1 Inv-loop μ-loop
+sub-if1 c = omega arith
+
+differs-requires : tie.Need-differs-requires Inv-loop μ-loop
+differs-requires c κs = tt
+
+same-length : tie.Need-same-length Inv-loop μ-loop
+same-length c = search needs
+
+returns : tie.Need-returns Inv-loop μ-loop
+returns c = tt
+
+replay-call-requires : tie.Need-replay-call-requires Inv-loop μ-loop
+replay-call-requires c κs = (omega arith, omega arith)
+
+loop-less : tie.Need-loop-less Inv-loop μ-loop
+loop-less c = omega (arith, c .before .before .before .before .replay-call .ensures)
+
+loop-again : tie.Need-loop-again Inv-loop μ-loop
+loop-again c = let e = c .before .before .before .before .replay-call .ensures in (e .1, omega (arith, e .2), search needs)
+
+same-length-2 : tie.Need-same-length-2 Inv-loop μ-loop
+same-length-2 c = search needs
+
+returns-2 : tie.Need-returns-2 Inv-loop μ-loop
+returns-2 c = tt
+
+pub replay-spec : {M : Type 1} → statement M
+replay-spec =
+    tie.close
+    (tie.spec
+    Inv-loop
+    μ-loop
+    new-requires
+    perfect-requires
+    new-requires-2
+    loop-holds
+    sub-if1
+    differs-requires
+    same-length
+    returns
+    replay-call-requires
+    loop-less
+    loop-again
+    same-length-2
+    returns-2)

@@ -1,0 +1,227 @@
+// The journal over lent words: a network's head and records as in `network_words`, and the journal's own words. A call answers 0, or
+// the number of its refusal; then no lent word is changed, those lent for the answer included. The network is read into a value and
+// written back, since a journaled call can still be refused once its network is known.
+use network::Counted;
+use network::Head;
+use network::Network;
+use network::NetworkOptions;
+use network::SendAnswer;
+use network::Settled;
+ghost use mathlib.Core.Path.{_≡_};
+ghost use mathlib.Core.Bool.{true};
+ghost use mathlib.Core.List.{[], _∷_};
+ghost use lib.Dec.{T};
+ghost use lib.ListN.{length};
+ghost use Rattle.chance.specs.Probability.{goodWord};
+ghost use Rattle.nights.specs.Record.{wordsOf};
+ghost use Rattle.nights.specs.Net.{keep, isDue};
+ghost use Rattle.nights.specs.Draws.{decided};
+ghost use Rattle.nights.specs.Journal.{rewind};
+ghost use Rattle.network.specs.Answers.{settledOf};
+ghost use Rattle.network.specs.Forms.{plainOf, isFormed, headOf, joined};
+ghost use Rattle.network.specs.Options.{structOptions};
+ghost use Rattle.network.specs.Calls.{written};
+ghost use Rattle.network_words.specs.Layout.{optionsFrom, networkIn, headWords};
+ghost use Rattle.network_words.specs.Calls.{numberOf, onDone, sendTold};
+ghost use Rattle.journal.specs.Calls.{sends, takes, chooses, markAnswer, markWords};
+ghost use Rattle.journal_words.specs.Calls.{journalAnswer, journalHead, journalRecords, journalWords};
+
+// The number of a call that has nothing more to tell.
+fn settled_number(answer: Settled) -> u64
+    ensures { λ r. ⌜ r ≡ numberOf (settledOf answer) ⌝ }
+{
+    match answer {
+        Settled::Done => 0,
+        Settled::Refused(refusal) => network_words::number_of(refusal),
+    }
+}
+
+// The network of a head and its records.
+fn read(head: Head, records: &[u64; 1024]) -> Network
+    ensures { λ r. ⌜ r ≡ joined head (now (records .entry)) ⌝ }
+{
+    let words = *records;
+    head.with(words)
+}
+
+// The words of a well-formed network.
+fn write(network: Network, head: &mut [u64; 12], records: &mut [u64; 1024])
+    requires { ⌜ isFormed network ≡ true ⌝ }
+    ensures head { λ _. ⌜ now (head .exit) ≡ headWords (headOf network) ⌝ }
+    ensures records { λ _. ⌜ now (records .exit) ≡ network .words ⌝ }
+{
+    network_words::store(network.head(), head);
+    let words = network.words;
+    *records = words;
+}
+
+// Forgets the calls held.
+pub fn mark(journal: &mut [u64]) -> u64
+    ensures answer { λ r. ⌜ r ≡ numberOf (markAnswer (now (journal .entry))) ⌝ }
+    ensures journal { λ _. ⌜ now (journal .exit) ≡ markWords (now (journal .entry)) ⌝ }
+{
+    settled_number(journal::mark(journal))
+}
+
+// A journaled send.
+pub fn send(
+    head: &mut [u64; 12],
+    records: &mut [u64; 1024],
+    now: u64,
+    sort: u64,
+    origin: u64,
+    to: u64,
+    kind: u64,
+    handle: u64,
+    draws: &[u64],
+    extras: &[u64],
+    journal: &mut [u64],
+    told: &mut [u64; 4],
+) -> u64
+    ensures answer { λ r. ⌜ r ≡ numberOf (journalAnswer (sends now sort origin to kind handle (draws .entry .now) (extras .entry .now)) (head .entry .now) (records .entry .now) (journal .entry .now)) ⌝ }
+    ensures head { λ _. ⌜ head .exit .now ≡ journalHead (sends now sort origin to kind handle (draws .entry .now) (extras .entry .now)) (head .entry .now) (records .entry .now) (journal .entry .now) ⌝ }
+    ensures records { λ _. ⌜ records .exit .now ≡ journalRecords (sends now sort origin to kind handle (draws .entry .now) (extras .entry .now)) (head .entry .now) (records .entry .now) (journal .entry .now) ⌝ }
+    ensures journal { λ _. ⌜ journal .exit .now ≡ journalWords (sends now sort origin to kind handle (draws .entry .now) (extras .entry .now)) (head .entry .now) (records .entry .now) (journal .entry .now) ⌝ }
+    ensures told { λ _. ⌜ told .exit .now ≡ onDone (journalAnswer (sends now sort origin to kind handle (draws .entry .now) (extras .entry .now)) (head .entry .now) (records .entry .now) (journal .entry .now)) (sendTold (decided (plainOf (networkIn (head .entry .now) (records .entry .now)) .options) now kind (draws .entry .now) (extras .entry .now))) (told .entry .now) ⌝ }
+{
+    let loaded = network_words::load(head);
+    if !loaded.fits {
+        return network_words::ILL_FORMED;
+    }
+    let network = read(loaded.head, records);
+    let sent = journal::send(
+        network,
+        now,
+        sort,
+        origin,
+        to,
+        kind,
+        handle,
+        draws,
+        extras,
+        journal,
+    );
+    let answer = sent.answer;
+    match answer {
+        SendAnswer::Refused(refusal) => network_words::number_of(refusal),
+        SendAnswer::Accepted {
+            lost,
+            replayed,
+            draws: drawn,
+            extras: added,
+        } => {
+            write(sent.network, head, records);
+            told[0] = network_words::flag_word(lost);
+            told[1] = network_words::flag_word(replayed);
+            told[2] = drawn as u64;
+            told[3] = added as u64;
+            0
+        }
+    }
+}
+
+// A journaled take.
+pub fn take_due(
+    head: &mut [u64; 12],
+    records: &mut [u64; 1024],
+    now: u64,
+    out: &mut [u64],
+    journal: &mut [u64],
+    told: &mut [u64; 1],
+) -> u64
+    ensures answer { λ r. ⌜ r ≡ numberOf (journalAnswer (takes now (length (out .entry .now))) (head .entry .now) (records .entry .now) (journal .entry .now)) ⌝ }
+    ensures head { λ _. ⌜ head .exit .now ≡ journalHead (takes now (length (out .entry .now))) (head .entry .now) (records .entry .now) (journal .entry .now) ⌝ }
+    ensures records { λ _. ⌜ records .exit .now ≡ journalRecords (takes now (length (out .entry .now))) (head .entry .now) (records .entry .now) (journal .entry .now) ⌝ }
+    ensures out { λ _. ⌜ out .exit .now ≡ written (journalAnswer (takes now (length (out .entry .now))) (head .entry .now) (records .entry .now) (journal .entry .now)) (wordsOf (keep (isDue now) (plainOf (networkIn (head .entry .now) (records .entry .now)) .pending))) (out .entry .now) ⌝ }
+    ensures journal { λ _. ⌜ journal .exit .now ≡ journalWords (takes now (length (out .entry .now))) (head .entry .now) (records .entry .now) (journal .entry .now) ⌝ }
+    ensures told { λ _. ⌜ told .exit .now ≡ onDone (journalAnswer (takes now (length (out .entry .now))) (head .entry .now) (records .entry .now) (journal .entry .now)) (length (keep (isDue now) (plainOf (networkIn (head .entry .now) (records .entry .now)) .pending)) ∷ []) (told .entry .now) ⌝ }
+{
+    let loaded = network_words::load(head);
+    if !loaded.fits {
+        return network_words::ILL_FORMED;
+    }
+    let network = read(loaded.head, records);
+    let taken = journal::take_due(network, now, out, journal);
+    let answer = taken.answer;
+    match answer {
+        Counted::Refused(refusal) => network_words::number_of(refusal),
+        Counted::Records(count) => {
+            write(taken.network, head, records);
+            told[0] = count as u64;
+            0
+        }
+    }
+}
+
+// Options of good words.
+fn options_of(loss: u64, replay: u64, min: u64, mean: u64, flag: u64) -> NetworkOptions
+    requires { ⌜ T (goodWord loss) × T (goodWord replay) ⌝ }
+    ensures { λ r. ⌜ r ≡ structOptions (optionsFrom loss replay min mean flag) ⌝ }
+{
+    NetworkOptions {
+        packet_loss_probability: chance::of_word(loss),
+        packet_replay_probability: chance::of_word(replay),
+        one_way_delay_min: min,
+        one_way_delay_mean: mean,
+        fault_client_messages: flag != 0,
+    }
+}
+
+// A journaled change of the options.
+pub fn set_options(
+    head: &mut [u64; 12],
+    records: &[u64; 1024],
+    loss: u64,
+    replay: u64,
+    min: u64,
+    mean: u64,
+    flag: u64,
+    journal: &mut [u64],
+) -> u64
+    ensures answer { λ r. ⌜ r ≡ numberOf (journalAnswer (chooses (optionsFrom loss replay min mean flag)) (now (head .entry)) (now (records .entry)) (now (journal .entry))) ⌝ }
+    ensures head { λ _. ⌜ now (head .exit) ≡ journalHead (chooses (optionsFrom loss replay min mean flag)) (now (head .entry)) (now (records .entry)) (now (journal .entry)) ⌝ }
+    ensures journal { λ _. ⌜ now (journal .exit) ≡ journalWords (chooses (optionsFrom loss replay min mean flag)) (now (head .entry)) (now (records .entry)) (now (journal .entry)) ⌝ }
+{
+    let loaded = network_words::load(head);
+    if !loaded.fits {
+        return network_words::ILL_FORMED;
+    }
+    if !network::formed(records, loaded.head) {
+        return network_words::ILL_FORMED;
+    }
+    let number = network_words::options_number(loss, replay, min, mean);
+    if number != 0 {
+        return number;
+    }
+    let network = read(loaded.head, records);
+    let options = options_of(loss, replay, min, mean, flag);
+    let next = journal::set_options(network, options, journal);
+    let answer = next.answer;
+    let Settled::Refused(refusal) = answer else {
+        let after = next.network;
+        network_words::store(after.head(), head);
+        return 0;
+    };
+    network_words::number_of(refusal)
+}
+
+// Goes back over the last k calls held.
+pub fn rewind(head: &mut [u64; 12], records: &mut [u64; 1024], k: u64, journal: &mut [u64]) -> u64
+    ensures answer { λ r. ⌜ r ≡ numberOf (journalAnswer (rewind k) (now (head .entry)) (now (records .entry)) (now (journal .entry))) ⌝ }
+    ensures head { λ _. ⌜ now (head .exit) ≡ journalHead (rewind k) (now (head .entry)) (now (records .entry)) (now (journal .entry)) ⌝ }
+    ensures records { λ _. ⌜ now (records .exit) ≡ journalRecords (rewind k) (now (head .entry)) (now (records .entry)) (now (journal .entry)) ⌝ }
+    ensures journal { λ _. ⌜ now (journal .exit) ≡ journalWords (rewind k) (now (head .entry)) (now (records .entry)) (now (journal .entry)) ⌝ }
+{
+    let loaded = network_words::load(head);
+    if !loaded.fits {
+        return network_words::ILL_FORMED;
+    }
+    let network = read(loaded.head, records);
+    let next = journal::rewind(network, k, journal);
+    let answer = next.answer;
+    let Settled::Refused(refusal) = answer else {
+        write(next.network, head, records);
+        return 0;
+    };
+    network_words::number_of(refusal)
+}

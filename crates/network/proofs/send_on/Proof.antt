@@ -1,0 +1,208 @@
+-- `network::send_on` meets its contract: each test in turn, and then the queueing of the fate. Assumes nothing.
+use Prim.Native.Nat.{_+_, _≤_}
+use mathlib.Core.Path.{_≡_, sym, ap, _∙_}
+use native.Mathlib.Omega.{arith}
+use denote.Floats.{passes}
+use lib.ListN.{length}
+use Rattle.nights.specs.Net.{Fate, Letter, dues, Plain as Call, send as sends, sendOne, effect}
+use Rattle.nights.specs.Draws.{Decided}
+use Rattle.nights.specs.Journal.{Answer, done}
+use Rattle.nights.proofs.Kept.{Counts, options-good}
+use Rattle.network.specs.declared.Network.{Network}
+use Rattle.network.specs.declared.SendAnswer.{SendAnswer}
+use Rattle.network.specs.Answers.{Sending, sentOf, sending, fateAnswer, decisionOf}
+use Rattle.network.specs.Forms.{plainOf, structOf, joined, letterOf}
+use Rattle.network.proofs.OptionForms.{Held}
+use Rattle.network.proofs.Maps.{plain-formed, counts, sent-network}
+use Rattle.network.proofs.Calling.{stays, unsent, follows, bad-kind, bad-sort, limit-met, fate-refuses, queue-full, send-well, answer-of, refusing-fate, Few, few}
+use borrow.Author.Needs.{needs}
+use Rattle.network.proofs.send_on.Statement.{statement}
+use Rattle.network.proofs.send_on.Tie as tie
+
+-- the network whose words are lent, the message and the call
+abbrev whole : (c : tie.Start) → Network
+whole c = joined (c .args .head) (c .args .w .now)
+
+abbrev letter : (c : tie.Start) → Letter
+letter c = letterOf (c .args .now) (c .args .sort) (c .args .origin) (c .args .to) (c .args .kind) (c .args .handle)
+
+abbrev call : (c : tie.Start) → Call
+call c = sends (letter c) (c .args .draws .now) (c .args .extras .now)
+
+held : (c : tie.Start) → Held (c .args .head .options)
+held c = record { loss = passes _ (c .good .1 .0 .1 .1 .0 .1 .1 .0 .1); replay = passes _ (c .good .1 .0 .1 .1 .0 .1 .1 .1 .0 .1) }
+
+-- ---- once the message was decided
+
+abbrev start : (c : tie.After-decide) → tie.Start
+start c = c .before .before .before .before .before .before .before
+
+counted : (c : tie.After-decide) → let s = whole (start c) in Counts (s .pending) (s .seq) (s .sent) (s .delivered) (s .lost) (s .replayed) (s .delayed)
+counted c = counts (whole (start c)) (start c .pre .1)
+
+abbrev fate : (c : tie.After-decide) → Fate
+fate c = decisionOf (c .decide .result) .fate
+
+-- ---- and once it was accepted
+
+accepted : (c : tie.After-enum-told) → fateAnswer (fate (c .before .before .before)) ≡ done
+accepted c =
+    sym (answer-of (fateAnswer (fate (c .before .before .before))) (decisionOf (c .before .before .before .decide .result)))
+    ∙ (sym (ap (λ (t : Sending). t .answer) (c .before .before .told-by .ensures)) ∙ ap (λ (t : SendAnswer). sentOf t .answer) (c .enum-told .given .1))
+
+room : (c : tie.Else4) → start (c .before .before .before .before .before) .args .head .pending + length (dues (fate (c .before .before .before .before .before))) ≤ 128
+room c = omega (arith, c .if4 .left, c .before .copies-by .ensures)
+
+returns : tie.Need-returns
+returns c =
+    let b = c .before .before .before in
+    unsent (whole b) (call b) _ 24 (bad-kind (whole b) (b .pre .1) (letter b) (b .args .draws .now) (b .args .extras .now) (c .if1 .taken))
+
+returns-2 : tie.Need-returns-2
+returns-2 c =
+    let b = c .before .before .before .before in
+    unsent (whole b) (call b) _ 24 (bad-sort (whole b) (b .pre .1) (letter b) (b .args .draws .now) (b .args .extras .now) (c .if2 .taken))
+
+returns-3 : tie.Need-returns-3
+returns-3 c =
+    let b = c .before .before .before .before .before .before in
+    unsent (whole b) (call b) _ 25
+    (limit-met (whole b) (b .pre .1) (letter b) (b .args .draws .now) (b .args .extras .now) (c .before .before .before .if1 .left) (c .before .before .if2 .left) (c .if3 .taken))
+
+decide-requires : tie.Need-decide-requires
+decide-requires c κs =
+    let b = c .before .before .before .before .before .before in
+    options-good (plainOf (whole b)) (plain-formed (whole b) (b .pre .1))
+
+told-by-requires : tie.Need-told-by-requires
+told-by-requires c κs = search needs
+
+enum-told : tie.Need-enum-told
+enum-told c = search needs
+
+enum-told-2 : tie.Need-enum-told-2
+enum-told-2 c = search needs
+
+returns-4 : tie.Need-returns-4
+returns-4 c =
+    let d = c .before .before .before in
+    let b = start d in
+    let r = c .before .before .told-by .ensures in
+    let t = sym (answer-of (fateAnswer (fate d)) (decisionOf (d .decide .result)))
+    ∙ (sym (ap (λ (t : Sending). t .answer) r) ∙ ap (λ (t : SendAnswer). sentOf t .answer) (c .enum-told2 .given .1)) in
+    let e = fate-refuses (whole b) (b .pre .1) (letter b) (b .args .draws .now) (b .args .extras .now) (d .before .before .before .before .if1 .left) (d .before .before .before .if2 .left) (d .before .if3 .left) _
+    (sym (ap (λ (x : Decided). x .fate) (d .decide .ensures)) ∙ refusing-fate (fate d) _ t) in (
+      stays (whole b) (call b) _ e,
+      rw (e ∙ sym t) (r ∙ ap (λ (x : Decided). sending (fateAnswer (fate d)) x) (d .decide .ensures)),
+    )
+
+copies-by-requires : tie.Need-copies-by-requires
+copies-by-requires c κs = search needs
+
+add-if4 : tie.Need-add-if4
+add-if4 c =
+    let n = counted (c .before .before .before .before) in
+    let g : Few (fate (c .before .before .before .before)) = few (fate (c .before .before .before .before)) in
+    omega (arith, n .small, g .queued, c .copies-by .ensures)
+
+returns-5 : tie.Need-returns-5
+returns-5 c =
+    let d = c .before .before .before .before .before in
+    let b = start d in
+    unsent (whole b) (call b) _ 29
+    (queue-full (whole b) (b .pre .1) (letter b) (b .args .draws .now) (b .args .extras .now) (d .before .before .before .before .if1 .left) (d .before .before .before .if2 .left) (d .before .if3 .left)
+    (fate d) (sym (ap (λ (x : Decided). x .fate) (d .decide .ensures))) (accepted (c .before .before)) (omega (arith, c .if4 .taken, c .before .copies-by .ensures)))
+
+queue-copies-requires : tie.Need-queue-copies-requires
+queue-copies-requires c κs =
+    let d = c .before .before .before .before .before .before in
+    let n = counted d in
+    (start d .pre .0, room (c .before), omega (arith, n .few, n .replayed, n .even, n .numbered))
+
+add-next : tie.Need-add-next
+add-next c = search needs
+
+add-next-2 : tie.Need-add-next-2
+add-next-2 c =
+    let d = c .before .before .before .before .before .before .before in
+    let n = counted d in
+    let g : Few (fate d) = few (fate d) in
+    omega (arith, n .few, n .replayed, n .even, n .numbered, g .queued, c .before .before .before .copies-by .ensures)
+
+add-next-3 : tie.Need-add-next-3
+add-next-3 c = omega (arith, c .before .before .before .before .before .before .before .before .before .if3 .left)
+
+lost-by-requires : tie.Need-lost-by-requires
+lost-by-requires c κs = search needs
+
+add-next-4 : tie.Need-add-next-4
+add-next-4 c =
+    let d = c .before .before .before .before .before .before .before .before .before .before in
+    let n = counted d in
+    let g : Few (fate d) = few (fate d) in
+    omega (arith, n .few, n .lost, g .lost, c .before .lost-by .ensures)
+
+replayed-by-requires : tie.Need-replayed-by-requires
+replayed-by-requires c κs = search needs
+
+add-next-5 : tie.Need-add-next-5
+add-next-5 c =
+    let d = c .before .before .before .before .before .before .before .before .before .before .before .before in
+    let n = counted d in
+    let g : Few (fate d) = few (fate d) in
+    omega (arith, n .few, n .replayed, g .replayed, c .before .replayed-by .ensures)
+
+delayed-by-requires : tie.Need-delayed-by-requires
+delayed-by-requires c κs = search needs
+
+add-next-6 : tie.Need-add-next-6
+add-next-6 c =
+    let d = c .before .before .before .before .before .before .before .before .before .before .before .before .before .before in
+    let n = counted d in
+    let g : Few (fate d) = few (fate d) in
+    omega (arith, n .few, n .replayed, n .even, n .numbered, n .delayed, g .delayed, c .before .delayed-by .ensures)
+
+returns-6 : tie.Need-returns-6
+unfolding effect
+returns-6 c =
+    let q = c .before .before .before .before .before .before .before in
+    let l = q .before .before in
+    let a = l .before .before in
+    let d = a .before .before .before in
+    let b = start d in
+    let e = send-well (whole b) (b .pre .1) (letter b) (b .args .draws .now) (b .args .extras .now) (d .before .before .before .before .if1 .left) (d .before .before .before .if2 .left) (d .before .if3 .left)
+    (fate d) (sym (ap (λ (x : Decided). x .fate) (d .decide .ensures))) (accepted a) (room l) in (
+      rw (l .before .copies-by .ensures, c .before .before .before .before .before .lost-by .ensures, c .before .before .before .replayed-by .ensures, c .before .delayed-by .ensures)
+          (sent-network (whole b) (b .pre .1) (held b) (b .pre .0) (letter b) (fate d) (room l) _ (q .queue-copies .ensures)
+          ∙ (ap (λ (x : Decided). structOf (sendOne (letter b) (x .fate) (plainOf (whole b)))) (d .decide .ensures) ∙ follows (whole b) (call b) e)),
+      rw e
+          (a .before .before .told-by .ensures
+          ∙ (ap (λ (x : Answer). sending x (decisionOf (d .decide .result))) (accepted a) ∙ ap (λ (x : Decided). sending done x) (d .decide .ensures))),
+    )
+
+pub send-on-spec : {M : Type 1} → statement M
+send-on-spec =
+    tie.close
+    (tie.spec
+    returns
+    returns-2
+    returns-3
+    decide-requires
+    told-by-requires
+    enum-told
+    enum-told-2
+    returns-4
+    copies-by-requires
+    add-if4
+    returns-5
+    queue-copies-requires
+    add-next
+    add-next-2
+    add-next-3
+    lost-by-requires
+    add-next-4
+    replayed-by-requires
+    add-next-5
+    delayed-by-requires
+    add-next-6
+    returns-6)

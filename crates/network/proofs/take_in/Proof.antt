@@ -1,0 +1,31 @@
+-- `network::take_in` meets its contract: an ill-formed network is refused, and a well-formed one is `take_on`'s. Assumes nothing.
+use mathlib.Core.Path.{sym, _∙_}
+use lib.ListN.{length}
+use Rattle.nights.specs.Net.{take as takes}
+use Rattle.network.specs.Forms.{joined}
+use Rattle.network.proofs.Calling.{call-ill, untaken}
+use borrow.Author.Needs.{needs}
+use Rattle.network.proofs.take_in.Statement.{statement}
+use Rattle.network.proofs.take_in.Tie as tie
+
+formed-requires : tie.Need-formed-requires
+formed-requires c κs = search needs
+
+take-on-requires : tie.Need-take-on-requires
+take-on-requires c κs = (c .before .before .before .before .before .before .pre, sym (c .before .before .before .formed .ensures) ∙ c .before .before .if1 .taken)
+
+same-length : tie.Need-same-length
+same-length c = search needs
+
+returns : tie.Need-returns
+returns c = search needs
+
+returns-2 : tie.Need-returns-2
+returns-2 c =
+    let a = c .before .before .before .before .args in
+    let s = joined (a .head) (a .w .now) in
+    let t = takes (a .now) (length (a .out .now)) in
+    untaken s t _ _ _ 23 (call-ill s t (sym (c .before .formed .ensures) ∙ c .if1 .left))
+
+pub take-in-spec : {M : Type 1} → statement M
+take-in-spec = tie.close (tie.spec formed-requires take-on-requires same-length returns returns-2)

@@ -1,0 +1,73 @@
+-- A network's words, as the host lends them: a head of 12, and 1,024 of records. Assumes nothing.
+use Prim.Native.Nat.{ℕ}
+use mathlib.Core.Bool.{Bool, true, false, cond, not, _&&_}
+use mathlib.Core.List.{List, [], _∷_}
+use lib.Dec.{leb, eqb}
+use lib.ListN.{getD}
+use Rattle.chance.specs.Probability.{goodWord}
+use Rattle.nights.specs.Net.{Options, bit}
+use Rattle.network.specs.declared.Head.{Head}
+use Rattle.network.specs.declared.Network.{Network}
+use Rattle.network.specs.Options.{plainOptions, structOptions, perfectOptions}
+use Rattle.network.specs.Forms.{joined}
+use Rattle.network_words.specs.declared.Loaded.{Loaded}
+
+-- the options at the head's front
+abbrev pub optionsIn : List ℕ → Options
+optionsIn w =
+    record { loss = getD w 0 0; replay = getD w 1 0; least = getD w 2 0; mean = getD w 3 0; faulted = eqb (getD w 4 0) 1 }
+
+-- options handed in as words: the flag is no for 0 and yes otherwise
+abbrev pub optionsFrom : (loss replay min mean flag : ℕ) → Options
+optionsFrom loss replay min mean flag =
+    record { loss = loss; replay = replay; least = min; mean = mean; faulted = not (eqb flag 0) }
+
+-- the probabilities' words are good, and the flag is 0 or 1
+unfoldable pub headFits : List ℕ → Bool
+headFits w = goodWord (getD w 0 0) && (goodWord (getD w 1 0) && leb (getD w 4 0) 1)
+
+-- the head of the words, and the words of a head
+abbrev pub headIn : List ℕ → Head
+headIn w =
+    record {
+      options = structOptions (optionsIn w);
+      pending = getD w 5 0;
+      seq = getD w 6 0;
+      sent = getD w 7 0;
+      delivered = getD w 8 0;
+      lost = getD w 9 0;
+      replayed = getD w 10 0;
+      delayed = getD w 11 0;
+    }
+
+abbrev pub optionWords : Options → List ℕ → List ℕ
+optionWords o rest = o .loss ∷ o .replay ∷ o .least ∷ o .mean ∷ bit (o .faulted) ∷ rest
+
+abbrev pub headWords : Head → List ℕ
+headWords h =
+    optionWords (plainOptions (h .options))
+    (h .pending ∷ h .seq ∷ h .sent ∷ h .delivered ∷ h .lost ∷ h .replayed ∷ h .delayed ∷ [])
+
+-- the network of a head's words and records
+abbrev pub networkIn : List ℕ → List ℕ → Network
+networkIn h r = joined (headIn h) r
+
+-- INSIDE: what reading a head gives; where it does not fit, a head of zeros and the perfect options
+abbrev pub freshHead : Head
+freshHead =
+    record {
+      options = structOptions perfectOptions;
+      pending = 0;
+      seq = 0;
+      sent = 0;
+      delivered = 0;
+      lost = 0;
+      replayed = 0;
+      delayed = 0;
+    }
+
+abbrev pub unloaded : Loaded
+unloaded = record { fits = false; head = freshHead }
+
+unfoldable pub loaded : List ℕ → Loaded
+loaded w = cond (headFits w) (record { fits = true; head = headIn w }) unloaded

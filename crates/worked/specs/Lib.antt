@@ -1,0 +1,2 @@
+-- The table of the rules' worked numbers.
+pub mod Table
