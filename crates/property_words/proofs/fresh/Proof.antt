@@ -4,24 +4,16 @@ use Rattle.property_words.specs.Told.{answerNumber, toldBy}
 use borrow.Author.Needs.{needs}
 use Rattle.property_words.proofs.fresh.Statement.{statement}
 use Rattle.property_words.proofs.fresh.Tie as tie
-use Rattle.property_words.proofs.fresh.Reads as reads
-use Rattle.property_words.proofs.fresh.Lts as lts
-use Rattle.properties.proofs.fresh.Reads as fresh-reads
-use Rattle.property_words.proofs.number.Reads as number-reads
 
--- src/lib.rt:62:12
 fresh-requires : tie.Need-fresh-requires
 fresh-requires c κs = search needs
 
--- src/lib.rt:62:5
 number-requires : tie.Need-number-requires
 number-requires c κs = search needs
 
--- src/lib.rt:58:1
 same-length : tie.Need-same-length
 same-length c = search needs
 
--- src/lib.rt:58:1
 returns : tie.Need-returns
 returns c =
     let p = c .before .before .before in (c .number .ensures ∙ ap answerNumber (p .fresh .ensures .0), p .fresh .ensures .1)

@@ -4,35 +4,25 @@ use Rattle.property_words.specs.Told.{answerNumber, toldBy}
 use borrow.Author.Needs.{needs}
 use Rattle.property_words.proofs.number.Statement.{statement}
 use Rattle.property_words.proofs.number.Tie as tie
-use Rattle.property_words.proofs.number.Reads as reads
-use Rattle.property_words.proofs.number.Lts as lts
-use Rattle.verdicts.proofs.refusal_number.Reads as refusal-number-reads
 
--- src/lib.rt:46:25
 enum-told : tie.Need-enum-told
 enum-told c = search needs
 
--- src/lib.rt:52:14
 enum-told-2 : tie.Need-enum-told-2
 enum-told-2 c = search needs
 
--- src/lib.rt:53:25
 enum-known-answer : tie.Need-enum-known-answer
 enum-known-answer c = search needs
 
--- src/lib.rt:53:37
 refusal-number-requires : tie.Need-refusal-number-requires
 refusal-number-requires c κs = search needs
 
--- src/lib.rt:42:1
 returns : tie.Need-returns
 returns c = search needs
 
--- src/lib.rt:42:1
 returns-2 : tie.Need-returns-2
 returns-2 c = search needs
 
--- src/lib.rt:42:1
 returns-3 : tie.Need-returns-3
 returns-3 c = c .refusal-number .ensures ∙ sym (ap answerNumber (c .before .before .answer .given .1))
 

@@ -4,24 +4,16 @@ use Rattle.property_words.specs.Told.{answerNumber, toldBy}
 use borrow.Author.Needs.{needs}
 use Rattle.property_words.proofs.reboot.Statement.{statement}
 use Rattle.property_words.proofs.reboot.Tie as tie
-use Rattle.property_words.proofs.reboot.Reads as reads
-use Rattle.property_words.proofs.reboot.Lts as lts
-use Rattle.properties.proofs.reboot.Reads as reboot-reads
-use Rattle.property_words.proofs.number.Reads as number-reads
 
--- src/lib.rt:70:12
 reboot-requires : tie.Need-reboot-requires
 reboot-requires c κs = search needs
 
--- src/lib.rt:70:5
 number-requires : tie.Need-number-requires
 number-requires c κs = search needs
 
--- src/lib.rt:66:1
 same-length : tie.Need-same-length
 same-length c = search needs
 
--- src/lib.rt:66:1
 returns : tie.Need-returns
 returns c =
     let p = c .before .before .before in (c .number .ensures ∙ ap answerNumber (p .reboot .ensures .0), p .reboot .ensures .1)
