@@ -1,1 +1,5 @@
 -- Laws that belong to no one function.
+pub mod Writing
+pub mod Walking
+pub mod Storing
+pub mod Answering
