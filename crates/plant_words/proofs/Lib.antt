@@ -3,3 +3,4 @@ pub mod Writing
 pub mod Walking
 pub mod Storing
 pub mod Answering
+pub mod Laws
