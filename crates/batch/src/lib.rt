@@ -31,8 +31,7 @@ const PLACED: u64 = 0x1_0000_0000;
 const BROKEN_MESSAGE: u64 = 24;
 
 // A lent row of words. It does nothing: a row of a fixed size is seen to have that size where it is lent as one of any.
-fn seen(words: &[u64]) {
-}
+fn seen(words: &[u64]) {}
 
 // The records are 1,024 words.
 fn sized(records: &[u64; 1024])

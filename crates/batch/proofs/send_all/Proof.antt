@@ -20,10 +20,6 @@ use Rattle.batch.proofs.Sending.{Whole, callAt, rest, within-left, stay
 use Rattle.batch.proofs.Using.{Modest, modest, number-over}
 use Rattle.batch.proofs.send_all.Statement.{statement}
 use Rattle.batch.proofs.send_all.Tie as tie
-use Rattle.batch.proofs.send_all.Reads as reads
-use Rattle.batch.proofs.send_all.Lts as lts
-use Rattle.batch.proofs.send_at.Reads as send-at-reads
-use Rattle.network_words.proofs.number_of.Reads as number-of-reads
 
 abbrev Inv-loop : tie.InvT-loop
 Inv-loop records₀ sends count draws extras me₀ drawn₀ added₀ i₀ records me drawn added i =
@@ -93,60 +89,47 @@ added-within : (c : tie.After-answer2 Inv-loop μ-loop) → at (sent c) .loop .a
 added-within c =
     within-left (start (sent c) .args .extras .now) _ _ _ (at (sent c) .loop .inv .1 .1 .1 .0) (more-extras c) (modestly c .extras-within)
 
--- src/lib.rt:93:5
 loop-holds : tie.Need-loop-holds Inv-loop μ-loop
 loop-holds c =
     let b = c .before .before .before in
     let z : b .args .count - 0 ≡ b .args .count = omega arith in
     (omega arith, (record { formed = b .pre .1; long = b .pre .0 }, (omega arith, (omega arith, rw z))))
 
--- src/lib.rt:94:51
 mul-send-at : tie.Need-mul-send-at Inv-loop μ-loop
 mul-send-at c = omega arith
 
--- src/lib.rt:94:51
 sub-send-at : tie.Need-sub-send-at Inv-loop μ-loop
 sub-send-at c = omega arith
 
--- src/lib.rt:94:51
 part-send-at-start : tie.Need-part-send-at-start Inv-loop μ-loop
 part-send-at-start c = omega arith
 
--- src/lib.rt:94:51
 part-send-at-end : tie.Need-part-send-at-end Inv-loop μ-loop
 part-send-at-end c = omega arith
 
--- src/lib.rt:94:68
 mul-send-at-2 : tie.Need-mul-send-at-2 Inv-loop μ-loop
 mul-send-at-2 c = omega arith
 
--- src/lib.rt:94:68
 sub-send-at-2 : tie.Need-sub-send-at-2 Inv-loop μ-loop
 sub-send-at-2 c = omega arith
 
--- src/lib.rt:94:68
 part-send-at-start-2 : tie.Need-part-send-at-start-2 Inv-loop μ-loop
 part-send-at-start-2 c = omega arith
 
--- src/lib.rt:94:68
 part-send-at-end-2 : tie.Need-part-send-at-end-2 Inv-loop μ-loop
 part-send-at-end-2 c = omega arith
 
--- src/lib.rt:94:13
 send-at-requires : tie.Need-send-at-requires Inv-loop μ-loop
 send-at-requires c κs =
     let l = c .before .before .before .before in
     (l .loop .inv .1 .0 .long, l .loop .inv .1 .0 .formed, omega (arith, l .before .before .before .before .pre .2))
 
--- src/lib.rt:97:33
 enum-known-answer : tie.Need-enum-known-answer Inv-loop μ-loop
 enum-known-answer c = search needs
 
--- src/lib.rt:99:30
 number-of-requires : tie.Need-number-of-requires Inv-loop μ-loop
 number-of-requires c κs = search needs
 
--- src/lib.rt:98:17
 returns : tie.Need-returns Inv-loop μ-loop
 returns c =
     let x = c .before .before .before .before in
@@ -159,42 +142,42 @@ returns c =
     (l .inv .1 .1 .1 .1
     ∙ turn-stops (a .sends .now) (a .draws .now) (a .extras .now) (a .count) (l .i) (l .drawn) (l .added) (state x) (x .before .before .before .before .loop-test .taken) _ (sent-refused _ _ _ (tells x) _ (r .1))))
 
--- src/lib.rt:109:24
 enum-known-answer-2 : tie.Need-enum-known-answer-2 Inv-loop μ-loop
 enum-known-answer-2 c = search needs
 
--- src/lib.rt:113:17
 add-drawn : tie.Need-add-drawn Inv-loop μ-loop
 add-drawn c = omega (arith, drawn-within (c .before .before), start (sent (c .before .before)) .good)
 
--- src/lib.rt:114:17
 add-added : tie.Need-add-added Inv-loop μ-loop
 add-added c = omega (arith, added-within (c .before .before), start (sent (c .before .before)) .good)
 
--- src/lib.rt:117:9
 add-i : tie.Need-add-i Inv-loop μ-loop
 add-i c = omega arith
 
--- src/lib.rt:93:5
 loop-less : tie.Need-loop-less Inv-loop μ-loop
 loop-less c = omega arith
 
--- src/lib.rt:93:5
 loop-again : tie.Need-loop-again Inv-loop μ-loop
 loop-again c =
     let y = c .before .before in
     let x = sent y in
     let l = at x .loop in
     let a = start x .args in
-    let t : x .before .before .before .before .before .loop .i + 1 ≤ a .count = omega (arith, x .before .before .before .before .loop-test .taken) in
-    (t,
-    (rw (inside x) (stays-whole (call x) (state x) (accepted y)),
-    (drawn-within y,
-    (added-within y,
-    l .inv .1 .1 .1 .1
-    ∙ turn-goes (a .sends .now) (a .draws .now) (a .extras .now) (a .count) (l .i) (l .drawn) (l .added) (state x) (x .before .before .before .before .loop-test .taken) (accepted y) _ _ (more-draws y) (more-extras y) _ (inside x)))))
+    let t : x .before .before .before .before .before .loop .i + 1 ≤ a .count = omega (arith, x .before .before .before .before .loop-test .taken) in (
+      t,
+      (
+        rw (inside x) (stays-whole (call x) (state x) (accepted y)),
+        (
+          drawn-within y,
+          (
+            added-within y,
+            l .inv .1 .1 .1 .1
+                ∙ turn-goes (a .sends .now) (a .draws .now) (a .extras .now) (a .count) (l .i) (l .drawn) (l .added) (state x) (x .before .before .before .before .loop-test .taken) (accepted y) _ _ (more-draws y) (more-extras y) _ (inside x),
+          ),
+        ),
+      ),
+    )
 
--- src/lib.rt:78:1
 returns-2 : tie.Need-returns-2 Inv-loop μ-loop
 returns-2 c =
     let l = c .before .loop in

@@ -5,87 +5,64 @@ use native.Mathlib.Omega.{arith}
 use borrow.Author.Needs.{needs}
 use Rattle.batch.proofs.send_at.Statement.{statement}
 use Rattle.batch.proofs.send_at.Tie as tie
-use Rattle.batch.proofs.send_at.Reads as reads
-use Rattle.batch.proofs.send_at.Lts as lts
-use Rattle.network.proofs.send_on.Reads as send-on-reads
 
--- src/lib.rt:53:13
 mul-b : tie.Need-mul-b
 mul-b c = search needs
 
--- src/lib.rt:57:9
 mul-send-on : tie.Need-mul-send-on
 mul-send-on c = search needs
 
--- src/lib.rt:57:9
 shared-slice-read-send-on : tie.Need-shared-slice-read-send-on
 shared-slice-read-send-on c = search needs
 
--- src/lib.rt:58:15
 add-send-on : tie.Need-add-send-on
 add-send-on c = search needs
 
--- src/lib.rt:58:9
 mul-send-on-2 : tie.Need-mul-send-on-2
 mul-send-on-2 c = search needs
 
--- src/lib.rt:58:9
 shared-slice-read-send-on-2 : tie.Need-shared-slice-read-send-on-2
 shared-slice-read-send-on-2 c = search needs
 
--- src/lib.rt:59:15
 add-send-on-2 : tie.Need-add-send-on-2
 add-send-on-2 c = search needs
 
--- src/lib.rt:59:9
 mul-send-on-3 : tie.Need-mul-send-on-3
 mul-send-on-3 c = search needs
 
--- src/lib.rt:59:9
 shared-slice-read-send-on-3 : tie.Need-shared-slice-read-send-on-3
 shared-slice-read-send-on-3 c = search needs
 
--- src/lib.rt:60:15
 add-send-on-3 : tie.Need-add-send-on-3
 add-send-on-3 c = search needs
 
--- src/lib.rt:60:9
 mul-send-on-4 : tie.Need-mul-send-on-4
 mul-send-on-4 c = search needs
 
--- src/lib.rt:60:9
 shared-slice-read-send-on-4 : tie.Need-shared-slice-read-send-on-4
 shared-slice-read-send-on-4 c = search needs
 
--- src/lib.rt:61:15
 add-send-on-4 : tie.Need-add-send-on-4
 add-send-on-4 c = search needs
 
--- src/lib.rt:61:9
 mul-send-on-5 : tie.Need-mul-send-on-5
 mul-send-on-5 c = search needs
 
--- src/lib.rt:61:9
 shared-slice-read-send-on-5 : tie.Need-shared-slice-read-send-on-5
 shared-slice-read-send-on-5 c = search needs
 
--- src/lib.rt:62:15
 add-send-on-5 : tie.Need-add-send-on-5
 add-send-on-5 c = search needs
 
--- src/lib.rt:62:9
 mul-send-on-6 : tie.Need-mul-send-on-6
 mul-send-on-6 c = search needs
 
--- src/lib.rt:62:9
 shared-slice-read-send-on-6 : tie.Need-shared-slice-read-send-on-6
 shared-slice-read-send-on-6 c = search needs
 
--- src/lib.rt:54:5
 send-on-requires : tie.Need-send-on-requires
 send-on-requires c κs = search needs
 
--- src/lib.rt:41:1
 returns : tie.Need-returns
 returns c =
     let p = c .before .before .before .before .before .before .before .before .before .before .before .args .place in
