@@ -9,7 +9,8 @@ const BUILT_BY_RT: &str = "target/staticlib/libbellmantle.a";
 
 fn main() {
     println!("cargo:rerun-if-env-changed=BELLMANTLE_LIB");
-    let manifest = env::var_os("CARGO_MANIFEST_DIR").expect("a build script has CARGO_MANIFEST_DIR");
+    let manifest =
+        env::var_os("CARGO_MANIFEST_DIR").expect("a build script has CARGO_MANIFEST_DIR");
     let root = Path::new(&manifest).join("../..");
     let archive = match env::var_os("BELLMANTLE_LIB") {
         Some(given) => root.join(given),

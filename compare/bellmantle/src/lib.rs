@@ -27,7 +27,5 @@ pub use network::{
 pub use plants::{Core, Plants, Verdict};
 pub use properties::{Broken, Property, Snapshot, Tracker, LOG_ENTRIES};
 pub use refusal::Refusal;
-pub use script::{
-    parse_script, parse_script_into, Fault, FaultScript, ScriptError, EVENT_WORDS,
-};
+pub use script::{parse_script, parse_script_into, Fault, FaultScript, ScriptError, EVENT_WORDS};
 pub use words::Words;

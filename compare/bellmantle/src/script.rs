@@ -65,6 +65,7 @@ pub type FaultScript = Vec<(u64, Fault)>;
 
 /// Why a script is refused, and the line that it is about, counted from 1 (0 for a text too long).
 #[derive(Clone, Copy, Debug, PartialEq, Eq)]
+#[allow(missing_docs)]
 pub struct ScriptError {
     pub refusal: Refusal,
     pub line: u32,
