@@ -1,5 +1,5 @@
 //! Lays the simulator twice: `original` with the checkout's files unchanged, and `adapted` with our library in the place
-//! of its network, its faults, its verdicts and its core. `sampler` is the Rust's network once more, for its delays.
+//! of its network, its faults, its verdicts and its core. `extended` is the Rust's network once more, with what the others need of its private parts at its end.
 
 fn main() {
     let stand_ins = ["stand_ins/state_machine.rs", "stand_ins/workload.rs"];
@@ -38,5 +38,5 @@ fn main() {
             "adapter/plants.rs",
         ],
     );
-    checkout::lay_extended("sampler", "simulator/network.rs", "adapter/sampler.rs");
+    checkout::lay_extended("extended", "simulator/network.rs", "adapter/extended.rs");
 }

@@ -6,7 +6,7 @@ pub use crate::original::network::{
 };
 
 use crate::limits::refused;
-use crate::sampler;
+use crate::extended;
 use crate::state_machine::Op;
 use bellmantle::{Kind, Sent};
 use log::{log_enabled, trace, Level};
@@ -18,7 +18,7 @@ pub struct Network {
     options: NetworkOptions,
     network: bellmantle::Network<Message<Op>>,
     /// The Rust's own network, for its sampling of a delay alone.
-    sampler: sampler::Network,
+    sampler: extended::Network,
     pub summary: MessageSummary,
 }
 
@@ -35,7 +35,7 @@ impl Network {
     pub fn new(options: NetworkOptions) -> Network {
         Network {
             network: bellmantle::Network::new(ours(&options)).unwrap_or_else(|r| refused(r)),
-            sampler: sampler::Network::new(sampled(&options)),
+            sampler: extended::Network::new(sampled(&options)),
             options,
             summary: MessageSummary::default(),
         }
@@ -169,8 +169,8 @@ fn ours(options: &NetworkOptions) -> bellmantle::NetworkOptions {
     }
 }
 
-fn sampled(options: &NetworkOptions) -> sampler::NetworkOptions {
-    sampler::NetworkOptions {
+fn sampled(options: &NetworkOptions) -> extended::NetworkOptions {
+    extended::NetworkOptions {
         packet_loss_probability: options.packet_loss_probability,
         packet_replay_probability: options.packet_replay_probability,
         one_way_delay_min: options.one_way_delay_min,

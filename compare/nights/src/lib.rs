@@ -5,7 +5,7 @@
 
 include!(concat!(env!("OUT_DIR"), "/original.rs"));
 include!(concat!(env!("OUT_DIR"), "/adapted.rs"));
-include!(concat!(env!("OUT_DIR"), "/sampler.rs"));
+include!(concat!(env!("OUT_DIR"), "/extended.rs"));
 
 pub mod limits;
 pub mod lines;
