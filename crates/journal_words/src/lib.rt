@@ -111,10 +111,12 @@ pub fn send(
             extras: added,
         } => {
             write(sent.network, head, records);
-            told[0] = network_words::flag_word(lost);
-            told[1] = network_words::flag_word(replayed);
-            told[2] = drawn as u64;
-            told[3] = added as u64;
+            *told = [
+                network_words::flag_word(lost),
+                network_words::flag_word(replayed),
+                drawn as u64,
+                added as u64,
+            ];
             0
         }
     }
@@ -147,7 +149,7 @@ pub fn take_due(
         Counted::Refused(refusal) => network_words::number_of(refusal),
         Counted::Records(count) => {
             write(taken.network, head, records);
-            told[0] = count as u64;
+            *told = [count as u64];
             0
         }
     }
@@ -186,6 +188,7 @@ pub fn set_options(
     if !loaded.fits {
         return network_words::ILL_FORMED;
     }
+    network_words::whole(records);
     if !network::formed(records, loaded.head) {
         return network_words::ILL_FORMED;
     }

@@ -1,1 +1,4 @@
 -- Laws that belong to no one function.
+pub mod Heads
+pub mod Told
+pub mod InPlace

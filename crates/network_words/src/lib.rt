@@ -117,6 +117,16 @@ fn no_head() -> Loaded
     }
 }
 
+// Lent as a slice, a row tells the proofs its length, which its type says.
+fn as_row(_words: &[u64]) {}
+
+// The records are 1,024 words.
+pub fn whole(records: &[u64; 1024])
+    ensures { λ _. ⌜ length (now (records .entry)) ≡ 1024 ⌝ }
+{
+    as_row(records);
+}
+
 // The head of the words.
 pub fn load(words: &[u64; 12]) -> Loaded
     ensures { λ r. ⌜ r ≡ loaded (now (words .entry)) ⌝ }
@@ -162,18 +172,20 @@ pub fn store(head: Head, words: &mut [u64; 12])
     ensures { λ _. ⌜ now (words .exit) ≡ headWords head ⌝ }
 {
     let options = head.options;
-    words[LOSS] = chance::word_of(options.packet_loss_probability);
-    words[REPLAY] = chance::word_of(options.packet_replay_probability);
-    words[MIN] = options.one_way_delay_min;
-    words[MEAN] = options.one_way_delay_mean;
-    words[FLAG] = flag_word(options.fault_client_messages);
-    words[PENDING] = head.pending as u64;
-    words[SEQ] = head.seq;
-    words[SENT] = head.sent;
-    words[DELIVERED] = head.delivered;
-    words[LOST] = head.lost;
-    words[REPLAYED] = head.replayed;
-    words[DELAYED] = head.delayed;
+    *words = [
+        chance::word_of(options.packet_loss_probability),
+        chance::word_of(options.packet_replay_probability),
+        options.one_way_delay_min,
+        options.one_way_delay_mean,
+        flag_word(options.fault_client_messages),
+        head.pending as u64,
+        head.seq,
+        head.sent,
+        head.delivered,
+        head.lost,
+        head.replayed,
+        head.delayed,
+    ];
 }
 
 // What options handed in as words answer.
@@ -196,6 +208,7 @@ pub fn options_number(loss: u64, replay: u64, min: u64, mean: u64) -> u64
 fn put_options(head: &mut [u64; 12], loss: u64, replay: u64, min: u64, mean: u64, flag: u64)
     ensures { λ _. ⌜ now (head .exit) ≡ loss ∷ replay ∷ min ∷ mean ∷ bit (not (eqb flag 0)) ∷ drop 5 (now (head .entry)) ⌝ }
 {
+    as_row(head);
     head[LOSS] = loss;
     head[REPLAY] = replay;
     head[MIN] = min;
@@ -207,11 +220,7 @@ fn put_options(head: &mut [u64; 12], loss: u64, replay: u64, min: u64, mean: u64
 fn clear(records: &mut [u64; 1024])
     ensures { λ _. ⌜ now (records .exit) ≡ replicate 1024 0 ⌝ }
 {
-    let mut i: usize = 0;
-    while i < queue::WORDS {
-        records[i] = 0;
-        i += 1;
-    }
+    *records = [0u64; queue::WORDS];
 }
 
 // A fresh network of these options; the flag is no for 0 and yes otherwise.
@@ -232,14 +241,20 @@ pub fn new(
     if number != 0 {
         return number;
     }
-    put_options(head, loss, replay, min, mean, flag);
-    head[PENDING] = 0;
-    head[SEQ] = 0;
-    head[SENT] = 0;
-    head[DELIVERED] = 0;
-    head[LOST] = 0;
-    head[REPLAYED] = 0;
-    head[DELAYED] = 0;
+    *head = [
+        loss,
+        replay,
+        min,
+        mean,
+        flag_word(flag != 0),
+        0,
+        0,
+        0,
+        0,
+        0,
+        0,
+        0,
+    ];
     clear(records);
     0
 }
@@ -261,6 +276,7 @@ pub fn set_options(
     if !loaded.fits {
         return ILL_FORMED;
     }
+    whole(records);
     if !network::formed(records, loaded.head) {
         return ILL_FORMED;
     }
@@ -268,6 +284,7 @@ pub fn set_options(
     if number != 0 {
         return number;
     }
+    as_row(head);
     put_options(head, loss, replay, min, mean, flag);
     0
 }
@@ -295,6 +312,7 @@ pub fn send(
     if !loaded.fits {
         return ILL_FORMED;
     }
+    whole(records);
     let sent = network::send_in(
         records,
         loaded.head,
@@ -317,10 +335,12 @@ pub fn send(
             extras: added,
         } => {
             store(sent.head, head);
-            told[0] = flag_word(lost);
-            told[1] = flag_word(replayed);
-            told[2] = drawn as u64;
-            told[3] = added as u64;
+            *told = [
+                flag_word(lost),
+                flag_word(replayed),
+                drawn as u64,
+                added as u64,
+            ];
             0
         }
     }
@@ -344,13 +364,14 @@ pub fn take_due(
     if !loaded.fits {
         return ILL_FORMED;
     }
+    whole(records);
     let taken = network::take_in(records, loaded.head, now, out);
     let answer = taken.answer;
     match answer {
         Counted::Refused(refusal) => number_of(refusal),
         Counted::Records(count) => {
             store(taken.head, head);
-            told[0] = count as u64;
+            *told = [count as u64];
             0
         }
     }
@@ -371,6 +392,7 @@ pub fn in_flight(
     if !loaded.fits {
         return ILL_FORMED;
     }
+    whole(records);
     if !network::formed(records, loaded.head) {
         return ILL_FORMED;
     }
@@ -379,7 +401,7 @@ pub fn in_flight(
         return SHORT_OUTPUT;
     }
     queue::copy_out(records, n * queue::RECORD_SIZE, out);
-    told[0] = n as u64;
+    *told = [n as u64];
     0
 }
 
@@ -392,9 +414,10 @@ pub fn pending(head: &[u64; 12], records: &[u64; 1024], told: &mut [u64; 1]) -> 
     if !loaded.fits {
         return ILL_FORMED;
     }
+    whole(records);
     if !network::formed(records, loaded.head) {
         return ILL_FORMED;
     }
-    told[0] = head[PENDING];
+    *told = [head[PENDING]];
     0
 }

@@ -12,7 +12,7 @@ use plants::refusal::Refusal;
 use plants::refusal::Test;
 use script::fault::Fault;
 ghost use mathlib.Core.Path.{_≡_};
-ghost use mathlib.Core.List.{List, _++_};
+ghost use mathlib.Core.List.{List, [], _∷_, _++_};
 ghost use Prim.Native.Nat.{_+_, _≤_};
 ghost use lib.ListN.{length, take, drop};
 ghost use Rattle.plant_words.specs.Layout.{flagsIn, flagsFit, ticksIn, plantsIn, wordsOf, bits, shaped, faultIn, originIn};
@@ -42,6 +42,31 @@ const UNKNOWN_FAULT: u64 = 5;
 const UNKNOWN_SORT: u64 = 24;
 
 // ---- A state's words
+
+// A lent row of words. It does nothing: a row of a fixed size is seen to have that size where it is lent as one of any.
+fn seen(words: &[u64]) {}
+
+// The words lent for a state are 49.
+fn sized(words: &[u64; 49])
+    ensures { λ _. ⌜ length (now (words .entry)) ≡ 49 ⌝ }
+{
+    seen(words);
+}
+
+// The one word of an answer.
+fn put_word(told: &mut [u64; 1], word: u64)
+    ensures { λ _. ⌜ now (told .exit) ≡ word ∷ [] ⌝ }
+{
+    seen(told);
+    told[0] = word;
+}
+
+// The words lent for a core are 17.
+fn sized_core(told: &[u64; 17])
+    ensures { λ _. ⌜ length (now (told .entry)) ≡ 17 ⌝ }
+{
+    seen(told);
+}
 
 // The 15 flags from a word on.
 fn flags_at(words: &[u64; 49], at: usize) -> [bool; 15]
@@ -171,6 +196,7 @@ pub fn new(n: u64, words: &mut [u64; 49]) -> u64
     ensures answer { λ r. ⌜ r ≡ newAnswer n ⌝ }
     ensures words { λ _. ⌜ now (words .exit) ≡ newWords n (now (words .entry)) ⌝ }
 {
+    sized(words);
     let next = Plants::new(n as usize);
     let outcome = next.outcome;
     if let Outcome::Refused(refusal) = outcome {
@@ -208,6 +234,7 @@ pub fn apply(
     ensures words { λ _. ⌜ now (words .exit) ≡ applyWords (now (words .entry)) tick fault id (now (draws .entry)) ⌝ }
     ensures nonce { λ _. ⌜ now (nonce .exit) ≡ nonceWords (now (words .entry)) tick fault id (now (draws .entry)) (now (nonce .entry)) ⌝ }
 {
+    sized(words);
     if 5 < fault {
         return UNKNOWN_FAULT;
     }
@@ -222,7 +249,7 @@ pub fn apply(
         Outcome::Refused(refusal) => refusal.number(),
         Outcome::Nonce(drawn) => {
             store(next.plants, words);
-            nonce[0] = drawn;
+            put_word(nonce, drawn);
             0
         }
         Outcome::Done => {
@@ -248,6 +275,7 @@ pub fn verdict(words: &[u64; 49], sort: u64, id: u64, to: u64, told: &mut [u64; 
     ensures answer { λ r. ⌜ r ≡ verdictAnswer (now (words .entry)) sort id to ⌝ }
     ensures told { λ _. ⌜ now (told .exit) ≡ verdictWords (now (words .entry)) sort id to (now (told .entry)) ⌝ }
 {
+    sized(words);
     if 1 < sort {
         return UNKNOWN_SORT;
     }
@@ -259,7 +287,7 @@ pub fn verdict(words: &[u64; 49], sort: u64, id: u64, to: u64, told: &mut [u64; 
     match state.verdict(origin_of(sort, id), to) {
         Judged::Refused(refusal) => refusal.number(),
         Judged::Is(verdict) => {
-            told[0] = verdict.number();
+            put_word(told, verdict.number());
             0
         }
     }
@@ -292,6 +320,8 @@ pub fn choose_core(
     ensures words { λ _. ⌜ now (words .exit) ≡ coreWords (now (words .entry)) (now (recovering .entry)) (now (picks .entry)) full ⌝ }
     ensures told { λ _. ⌜ now (told .exit) ≡ coreAnswered (now (words .entry)) (now (recovering .entry)) (now (picks .entry)) full (now (told .entry)) ⌝ }
 {
+    sized(words);
+    sized_core(told);
     let shape = shape(words);
     if shape != 0 {
         return shape;

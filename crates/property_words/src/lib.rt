@@ -9,11 +9,22 @@ ghost use Rattle.property_words.specs.Told.{answerNumber, toldBy};
 // The words of an answer.
 pub const ANSWER_WORDS: usize = 4;
 
+// A lent row of words. It does nothing: a row of a fixed size is seen to have that size where it is lent as one of any.
+fn seen(words: &[u64]) {}
+
+// The words lent for an answer are four.
+fn sized(told: &[u64; 4])
+    ensures { λ _. ⌜ length (now (told .entry)) ≡ 4 ⌝ }
+{
+    seen(told);
+}
+
 // What a call answers, written to its four words.
 fn tell(answer: Answer, told: &mut [u64; 4]) -> u64
     ensures answer { λ r. ⌜ r ≡ answerNumber answer ⌝ }
     ensures told { λ _. ⌜ now (told .exit) ≡ toldBy answer (now (told .entry)) ⌝ }
 {
+    sized(told);
     match answer {
         Answer::Pass => {
             told[0] = 0;

@@ -1,0 +1,96 @@
+-- What an answer says of the lent words: a refusal leaves them, and a call that is done writes them. And the answer itself, out of what
+-- a send or a take inside tells. Assumes nothing.
+use mathlib.Core.Path.{_≡_, refl, sym, ap, _∙_}
+use mathlib.Core.List.{List, [], _∷_, _++_}
+use mathlib.Core.Bool.{Bool, true, false}
+use Prim.Native.Nat.{ℕ}
+use lib.ListN.{length, drop}
+use Rattle.nights.specs.Net.{bit}
+use Rattle.nights.specs.Draws.{Decided}
+use Rattle.nights.specs.Journal.{Answer, done, refused}
+use Rattle.network.specs.declared.Refusal.{Refusal}
+use Rattle.network.specs.declared.SendAnswer.{SendAnswer}
+use Rattle.network.specs.declared.SendAnswer.the-variants.{Accepted, Refused as Unsent}
+use Rattle.network.specs.declared.Counted.{Counted}
+use Rattle.network.specs.declared.Counted.the-variants.{Records, Refused as Uncounted}
+use Rattle.network.specs.Answers.{number, Sending, sentOf, sending, Count, countedOf, counting}
+use Rattle.network.specs.Calls.{written}
+use Rattle.network.proofs.Calling.{answer-of}
+use Rattle.network_words.specs.Layout.{headFits}
+use Rattle.network_words.specs.Calls.{numberOf, onDone, ifHead, sendTold}
+use Rattle.network_words.proofs.Heads.{no-head, a-head}
+
+-- ---- the words by the answer
+
+pub record Kept (a : Answer) (k : ℕ) : Type 0 where
+  pub number : k ≡ numberOf a
+  pub words : (after before : List ℕ) → before ≡ onDone a after before
+  pub out : (after before : List ℕ) → before ≡ written a after before
+
+pub record Done (a : Answer) : Type 0 where
+  pub number : 0 ≡ numberOf a
+  pub words : (after before : List ℕ) → after ≡ onDone a after before
+  pub out : (after before : List ℕ) → after ++ drop (length after) before ≡ written a after before
+
+pub kept : (a : Answer) (k : ℕ) → a ≡ refused k → Kept a k
+unfolding onDone written
+kept a k e = record { number = rw e; words = λ x y. rw e; out = λ x y. rw e }
+
+pub finished : (a : Answer) → a ≡ done → Done a
+unfolding onDone written
+finished a e = record { number = rw e; words = λ x y. rw e; out = λ x y. rw e }
+
+-- a number that is not 0 is a refusal's
+pub number-refused : (a : Answer) (n : ℕ) → n ≡ numberOf a → (n ≡ 0 → ⊥) → a ≡ refused n
+number-refused done n e h = absurd (h e)
+number-refused (refused k) n e h = ap refused (sym e)
+
+pub kept-by : (a : Answer) (n : ℕ) → n ≡ numberOf a → (n ≡ 0 → ⊥) → Kept a n
+kept-by a n e h = kept a n (number-refused a n e h)
+
+-- of words that are no head, and of words that are one
+module _ (h : List ℕ) (a : Answer) where
+  pub unread : headFits h ≡ false → Kept (ifHead h a) 23
+  unread f = kept (ifHead h a) 23 (no-head h a f)
+
+  module _ (f : headFits h ≡ true) where
+    pub read-kept : (k : ℕ) → a ≡ refused k → Kept (ifHead h a) k
+    read-kept k e = kept (ifHead h a) k (a-head h a f ∙ e)
+
+    pub read-finished : a ≡ done → Done (ifHead h a)
+    read-finished e = finished (ifHead h a) (a-head h a f ∙ e)
+
+-- ---- the answer by what a send tells
+
+module _ (t : SendAnswer) (a : Answer) (d : Decided) (e : sentOf t ≡ sending a d) where
+  pub sent-refused : (r : Refusal) → t ≡ Unsent r → a ≡ refused (number r)
+  sent-refused r q = sym (answer-of a d) ∙ ap (λ (z : Sending). z .answer) (sym e ∙ ap sentOf q)
+
+  module _ (l r : Bool) (n x : ℕ) (q : t ≡ Accepted l r n x) where
+    pub sent-done : a ≡ done
+    sent-done = sym (answer-of a d) ∙ ap (λ (z : Sending). z .answer) (sym e ∙ ap sentOf q)
+
+    pub sent-told : bit l ∷ bit r ∷ n ∷ x ∷ [] ≡ sendTold d
+    unfolding sending
+    sent-told =
+        ap (λ (z : Sending). z .lost ∷ z .replayed ∷ z .draws ∷ z .extras ∷ [])
+        (sym (ap sentOf q) ∙ (e ∙ ap (λ (b : Answer). sending b d) sent-done))
+
+-- ---- and by what a take tells
+
+counting-of : (a : Answer) (n : ℕ) → counting a n .answer ≡ a
+unfolding counting
+counting-of done n = refl
+counting-of (refused k) n = refl
+
+module _ (t : Counted) (a : Answer) (n : ℕ) (e : countedOf t ≡ counting a n) where
+  pub taken-refused : (r : Refusal) → t ≡ Uncounted r → a ≡ refused (number r)
+  taken-refused r q = sym (counting-of a n) ∙ ap (λ (z : Count). z .answer) (sym e ∙ ap countedOf q)
+
+  module _ (k : ℕ) (q : t ≡ Records k) where
+    pub taken-done : a ≡ done
+    taken-done = sym (counting-of a n) ∙ ap (λ (z : Count). z .answer) (sym e ∙ ap countedOf q)
+
+    pub taken-told : k ≡ n
+    unfolding counting
+    taken-told = ap (λ (z : Count). z .records) (sym (ap countedOf q) ∙ (e ∙ ap (λ (b : Answer). counting b n) taken-done))
