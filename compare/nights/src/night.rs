@@ -40,6 +40,7 @@ pub struct End {
     pub verdict: Verdict,
     /// Every field of the simulator's own snapshot, with the messages in flight: absent where it stopped within a call.
     pub snapshot: Option<String>,
+    pub phase: String,
     pub core: Vec<usize>,
     pub up: Vec<bool>,
     /// How far the generator was drawn, and what it draws next.
@@ -157,6 +158,7 @@ macro_rules! side {
                 End {
                     verdict,
                     snapshot: whole.then(|| format!("{:?}", simulator.snapshot())),
+                    phase: format!("{:?}", simulator.phase()),
                     core: simulator.core().to_vec(),
                     up,
                     ticks: simulator.ticks,
