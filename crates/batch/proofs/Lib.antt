@@ -1,1 +1,4 @@
 -- Laws that belong to no one function.
+pub mod Using
+pub mod Sending
+pub mod Ticking

@@ -30,6 +30,16 @@ const PLACED: u64 = 0x1_0000_0000;
 // The number of a list that is no whole number of messages, or has too many.
 const BROKEN_MESSAGE: u64 = 24;
 
+// A lent row of words. It does nothing: a row of a fixed size is seen to have that size where it is lent as one of any.
+fn seen(words: &[u64]) {}
+
+// The records are 1,024 words.
+fn sized(records: &[u64; 1024])
+    ensures { λ _. ⌜ length (now (records .entry)) ≡ 1024 ⌝ }
+{
+    seen(records);
+}
+
 fn at(number: u64, place: usize) -> u64
     requires { ⌜ (number ≤ 33) × (place ≤ 65536) ⌝ }
     ensures { λ r. ⌜ r ≡ numberAt number place ⌝ }
@@ -146,6 +156,7 @@ pub fn tick(
     if !loaded.fits {
         return at(network_words::ILL_FORMED, 0);
     }
+    sized(records);
     if !network::formed(records, loaded.head) {
         return at(network_words::ILL_FORMED, 0);
     }
@@ -168,9 +179,7 @@ pub fn tick(
         Counted::Records(k) => {
             network_words::store(taken.head, head);
             *records = work;
-            told[0] = run.draws as u64;
-            told[1] = run.extras as u64;
-            told[2] = k as u64;
+            *told = [run.draws as u64, run.extras as u64, k as u64];
             0
         }
     }
