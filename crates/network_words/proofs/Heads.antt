@@ -5,12 +5,10 @@ use mathlib.Core.List.{List, [], _∷_}
 use Prim.Native.Nat.{ℕ, _≤_, _<_}
 use native.Mathlib.Omega.{arith}
 use borrow.Author.Tests.{le-leb, lt-leb}
-use lib.Dec.{leb}
 use lib.ListN.{length, drop, getD}
 use lib.Seq.{drop-cons, drop-length}
 use Rattle.chance.specs.Probability.{goodWord}
 use Rattle.nights.specs.Journal.{Answer, refused}
-use Rattle.network.specs.declared.Head.{Head}
 use Rattle.network_words.specs.declared.Loaded.{Loaded}
 use Rattle.network_words.specs.Layout.{headFits, headIn, loaded, unloaded}
 use Rattle.network_words.specs.Calls.{ifHead}

@@ -2,7 +2,7 @@
 use mathlib.Core.Path.{_≡_, sym, ap, _∙_}
 use mathlib.Core.Bool.{true, false}
 use borrow.Author.Tests.{not-true, not-false}
-use Rattle.nights.specs.Journal.{Answer, done, rewind}
+use Rattle.nights.specs.Journal.{rewind}
 use Rattle.network.specs.declared.Head.{Head}
 use Rattle.network.specs.declared.Network.{Network}
 use Rattle.network.specs.Answers.{settledOf}

@@ -1,5 +1,5 @@
 -- `journal_words::send` meets its contract: the journal's send on the network of the words. Assumes nothing.
-use mathlib.Core.Path.{_≡_, sym, ap, _∙_}
+use mathlib.Core.Path.{_≡_, ap, _∙_}
 use mathlib.Core.Bool.{true, false}
 use borrow.Author.Tests.{not-true, not-false}
 use Rattle.nights.specs.Draws.{Decided, decided}

@@ -7,7 +7,7 @@ use borrow.Author.Tests.{not-true, not-false}
 use denote.Floats.{passes}
 use Rattle.chance.specs.Probability.{goodWord}
 use Rattle.nights.specs.Net.{Options, choose, goodOptions}
-use Rattle.nights.specs.Journal.{Answer, done, refused, verdict, optionTests}
+use Rattle.nights.specs.Journal.{Answer, refused, verdict, optionTests}
 use Rattle.nights.proofs.Kept.{both}
 use Rattle.network.specs.declared.Head.{Head}
 use Rattle.network.specs.declared.Network.{Network}

@@ -1,5 +1,5 @@
 -- `network_words::new` meets its contract: the options' number, and the words of a fresh network beside 0. Assumes nothing.
-use mathlib.Core.Path.{_≡_, sym, _∙_}
+use mathlib.Core.Path.{sym, _∙_}
 use mathlib.Core.List.{[]}
 use Rattle.nights.specs.Net.{Options}
 use Rattle.nights.specs.Journal.{verdict, optionTests}

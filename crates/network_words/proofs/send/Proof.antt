@@ -1,8 +1,6 @@
 -- `network_words::send` meets its contract: the call in place on the words' own head and records. Assumes nothing.
-use mathlib.Core.Path.{_≡_, sym, ap, _∙_}
+use mathlib.Core.Path.{_≡_, ap, _∙_}
 use mathlib.Core.Bool.{true, false}
-use mathlib.Core.List.{List, [], _∷_}
-use Prim.Native.Nat.{ℕ}
 use borrow.Author.Tests.{not-true, not-false}
 use Rattle.nights.specs.Net.{Plain as Call, send as sends}
 use Rattle.nights.specs.Draws.{Decided, decided}
