@@ -55,6 +55,50 @@ pub fn lay_extended(name: &str, unchanged: &str, addition: &str) {
     fs::write(out.join(format!("{name}.rs")), declaration).expect("the declaration can be written");
 }
 
+/// A file of the checkout that is laid with some of its functions replaced.
+pub struct Edited<'a> {
+    pub file: &'a str,
+    /// A method's first line up to the brace, and the one line that becomes its body.
+    pub bodies: &'a [(&'a str, &'a str)],
+    /// What is added at the file's end.
+    pub end: &'a str,
+}
+
+/// Like [`lay_module`], with an edited file as the root.
+pub fn lay_edited(name: &str, root: &Edited, unchanged: &[&str], stand_ins: &[&str]) {
+    let out = PathBuf::from(env::var_os("OUT_DIR").expect("a build script has OUT_DIR"));
+    let laid = out.join(name);
+    fs::create_dir_all(&laid).expect("the folder of the module can be made");
+    let checkout = folder();
+    for file in unchanged {
+        lay(&checkout.join(file), &laid);
+    }
+    for file in stand_ins {
+        lay(Path::new(file), &laid);
+    }
+    let bytes = read(&checkout.join(root.file));
+    let mut text = String::from_utf8(bytes).expect("the checkout's files are UTF-8");
+    for (first, body) in root.bodies {
+        text = replaced(&text, first, body);
+    }
+    text += root.end;
+    let root = laid.join(file_name(Path::new(root.file)));
+    fs::write(&root, text).expect("a file of the module can be written");
+    let declaration = format!("#[path = {root:?}]\npub mod {name};\n");
+    fs::write(out.join(format!("{name}.rs")), declaration).expect("the declaration can be written");
+}
+
+/// The text with another body of a method, which stands once in it and ends at the first brace of its own indent.
+fn replaced(text: &str, first: &str, body: &str) -> String {
+    let opening = format!("    {first} {{\n");
+    let parts: Vec<&str> = text.split(&opening).collect();
+    let [before, rest] = parts[..] else {
+        panic!("{first} does not stand once in the checkout's file");
+    };
+    let (_, after) = rest.split_once("\n    }\n").expect("a method ends");
+    format!("{before}{opening}        {body}\n    }}\n{after}")
+}
+
 fn lay(file: &Path, folder: &Path) {
     fs::write(folder.join(file_name(file)), read(file))
         .expect("a file of the module can be written");

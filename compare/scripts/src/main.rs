@@ -51,11 +51,14 @@ fn main() -> ExitCode {
 }
 
 fn ours(text: &[u8], words: &mut [u64]) -> Reply {
-    match ours::parse_script(text, words) {
-        Ok(number) => Reply { refusal: 0, number },
-        Err(refusal) => Reply {
-            refusal: refusal.number,
-            number: refusal.line,
+    match bellmantle::parse_script_into(text, words) {
+        Ok(count) => Reply {
+            refusal: 0,
+            number: count as u32,
+        },
+        Err(error) => Reply {
+            refusal: error.refusal.number() as u32,
+            number: error.line,
         },
     }
 }

@@ -1,0 +1,349 @@
+//! The simulated network, with bodies.
+
+use crate::bodies::Bodies;
+use crate::words::{RECORDS_WORDS, RECORD_WORDS};
+use crate::{Refusal, Words};
+
+/// Who sends a message.
+#[derive(Clone, Copy, Debug, PartialEq, Eq)]
+pub enum Origin {
+    /// A replica, by its id.
+    Replica(u64),
+    /// A client, by its id.
+    Client(u64),
+}
+
+impl Origin {
+    /// Its sort and id.
+    pub(crate) fn words(self) -> (u64, u64) {
+        match self {
+            Origin::Replica(id) => (0, id),
+            Origin::Client(id) => (1, id),
+        }
+    }
+
+    fn of_words(sort: u64, id: u64) -> Origin {
+        match sort {
+            0 => Origin::Replica(id),
+            _ => Origin::Client(id),
+        }
+    }
+}
+
+/// The kind of a message, in the order of the simulator's `message_kind`.
+#[derive(Clone, Copy, Debug, PartialEq, Eq)]
+#[repr(u64)]
+#[allow(missing_docs)]
+pub enum Kind {
+    Request = 0,
+    Prepare = 1,
+    PrepareOk = 2,
+    Commit = 3,
+    GetState = 4,
+    NewState = 5,
+    StartViewChange = 6,
+    DoViewChange = 7,
+    StartView = 8,
+    Recovery = 9,
+    RecoveryResponse = 10,
+}
+
+/// Network fault injection options.
+#[derive(Clone, Debug, PartialEq)]
+pub struct NetworkOptions {
+    /// Probability per message that it is lost.
+    pub packet_loss_probability: f64,
+    /// Probability per message that it is delivered twice.
+    pub packet_replay_probability: f64,
+    /// Minimum one-way delay in ticks.
+    pub one_way_delay_min: u64,
+    /// Mean one-way delay in ticks; equal to the minimum, no extra is used.
+    pub one_way_delay_mean: u64,
+    /// Whether faults also apply to requests.
+    pub fault_client_messages: bool,
+}
+
+impl NetworkOptions {
+    /// A perfect network: no loss, no replay, no delay.
+    pub fn perfect() -> NetworkOptions {
+        NetworkOptions {
+            packet_loss_probability: 0.0,
+            packet_replay_probability: 0.0,
+            one_way_delay_min: 0,
+            one_way_delay_mean: 0,
+            fault_client_messages: false,
+        }
+    }
+
+    pub(crate) fn words(&self) -> (u64, u64, u64, u64, u64) {
+        (
+            self.packet_loss_probability.to_bits(),
+            self.packet_replay_probability.to_bits(),
+            self.one_way_delay_min,
+            self.one_way_delay_mean,
+            u64::from(self.fault_client_messages),
+        )
+    }
+}
+
+/// Message counters.
+#[derive(Clone, Copy, Debug, Default, PartialEq, Eq)]
+#[allow(missing_docs)]
+pub struct MessageSummary {
+    pub sent: u64,
+    pub delivered: u64,
+    pub lost: u64,
+    pub replayed: u64,
+    /// Copies delayed beyond the minimum transit time.
+    pub delayed: u64,
+}
+
+/// What became of a message that was sent, and how many words of each lent list were used, from its front.
+#[derive(Clone, Copy, Debug, PartialEq, Eq)]
+#[allow(missing_docs)]
+pub struct Sent {
+    pub lost: bool,
+    pub replayed: bool,
+    pub draws: usize,
+    pub extras: usize,
+}
+
+impl Sent {
+    pub(crate) fn told(words: [u64; 4]) -> Sent {
+        Sent {
+            lost: words[0] == 1,
+            replayed: words[1] == 1,
+            draws: words[2] as usize,
+            extras: words[3] as usize,
+        }
+    }
+
+    /// How many copies it queued.
+    pub fn copies(&self) -> u32 {
+        match (self.lost, self.replayed) {
+            (true, _) => 0,
+            (false, false) => 1,
+            (false, true) => 2,
+        }
+    }
+}
+
+/// A message to be sent in a tick.
+#[derive(Clone, Debug)]
+#[allow(missing_docs)]
+pub struct Message<M> {
+    pub now: u64,
+    pub from: Origin,
+    pub to: u64,
+    pub kind: Kind,
+    pub body: M,
+}
+
+/// A message in the network.
+#[derive(Clone, Debug, PartialEq, Eq)]
+#[allow(missing_docs)]
+pub struct Envelope<M> {
+    pub from: Origin,
+    pub to: u64,
+    pub sent_at: u64,
+    pub due_at: u64,
+    pub message: M,
+}
+
+/// What a tick gave.
+#[derive(Clone, Debug)]
+#[allow(missing_docs)]
+pub struct Ticked<M> {
+    pub draws: usize,
+    pub extras: usize,
+    pub due: Vec<Envelope<M>>,
+}
+
+/// A tick that was refused: why, at which call (the take's place is the number of messages), and the messages back.
+#[derive(Clone, Debug)]
+#[allow(missing_docs)]
+pub struct TickRefused<M> {
+    pub refusal: Refusal,
+    pub place: usize,
+    pub messages: Vec<Message<M>>,
+}
+
+/// A record's words as an envelope of a body.
+pub(crate) fn envelope<M>(record: &[u64], message: M) -> Envelope<M> {
+    Envelope {
+        from: Origin::of_words(record[3], record[4]),
+        to: record[5],
+        sent_at: record[2],
+        due_at: record[0],
+        message,
+    }
+}
+
+/// The simulated network. It holds at most 128 messages in flight.
+pub struct Network<M> {
+    options: NetworkOptions,
+    words: Words,
+    bodies: Bodies<M>,
+    /// What is taken is written here first.
+    out: Box<[u64; RECORDS_WORDS]>,
+}
+
+impl<M: Clone> Network<M> {
+    /// The most messages in flight.
+    pub const CAPACITY: usize = RECORDS_WORDS / RECORD_WORDS;
+
+    /// A fresh network: 20, 21, 22.
+    pub fn new(options: NetworkOptions) -> Result<Network<M>, Refusal> {
+        Ok(Network {
+            words: Words::new(&options)?,
+            options,
+            bodies: Bodies::new(),
+            out: Box::new([0; RECORDS_WORDS]),
+        })
+    }
+
+    /// The options in force.
+    pub fn options(&self) -> &NetworkOptions {
+        &self.options
+    }
+
+    /// Replaces the fault options. Messages already in flight keep their scheduled delivery tick. 20, 21, 22.
+    pub fn set_options(&mut self, options: NetworkOptions) -> Result<(), Refusal> {
+        self.words.set_options(&options)?;
+        self.options = options;
+        Ok(())
+    }
+
+    /// The counters.
+    pub fn summary(&self) -> MessageSummary {
+        let head = self.words.head();
+        MessageSummary {
+            sent: head[7],
+            delivered: head[8],
+            lost: head[9],
+            replayed: head[10],
+            delayed: head[11],
+        }
+    }
+
+    /// Number of messages in flight.
+    pub fn pending(&self) -> usize {
+        self.words.head()[5] as usize
+    }
+
+    /// Messages in flight, in delivery order.
+    pub fn in_flight(&self) -> impl Iterator<Item = Envelope<&M>> {
+        self.words.records()[..self.pending() * RECORD_WORDS]
+            .chunks_exact(RECORD_WORDS)
+            .map(|record| envelope(record, self.bodies.get(record[7])))
+    }
+
+    /// Accepts a message sent at tick `now`, applying faults by the lent draws and extras. 24 to 29; the body is dropped with a
+    /// refusal.
+    #[allow(clippy::too_many_arguments)]
+    pub fn send(
+        &mut self,
+        now: u64,
+        from: Origin,
+        to: u64,
+        kind: Kind,
+        body: M,
+        draws: &[u64],
+        extras: &[u64],
+    ) -> Result<Sent, Refusal> {
+        let (sort, origin) = from.words();
+        let message = [now, sort, origin, to, kind as u64, self.bodies.next()];
+        let sent = self.words.send(message, draws, extras)?;
+        if sent.copies() > 0 {
+            self.bodies.keep(body, sent.copies());
+        }
+        Ok(sent)
+    }
+
+    /// Takes every message due at tick `now`, in delivery order.
+    pub fn take_due(&mut self, now: u64) -> Result<Vec<Envelope<M>>, Refusal> {
+        let taken = self.words.take_due(now, &mut self.out[..])?;
+        Ok(self.delivered(taken))
+    }
+
+    fn delivered(&mut self, taken: usize) -> Vec<Envelope<M>> {
+        let Network { out, bodies, .. } = self;
+        out[..taken * RECORD_WORDS]
+            .chunks_exact(RECORD_WORDS)
+            .map(|record| envelope(record, bodies.deliver(record[7])))
+            .collect()
+    }
+
+    /// Sends messages one after the other and then takes what is due at tick `now`, in one call. If one is refused nothing is
+    /// changed.
+    pub fn tick(
+        &mut self,
+        messages: Vec<Message<M>>,
+        draws: &[u64],
+        extras: &[u64],
+        now: u64,
+    ) -> Result<Ticked<M>, TickRefused<M>> {
+        // A body's handle here is its place among the messages; those still in flight afterwards get a handle of the slab.
+        let mut sends = Vec::with_capacity(messages.len() * 6);
+        for (place, message) in messages.iter().enumerate() {
+            let (sort, origin) = message.from.words();
+            let handle = NEW | place as u64;
+            sends.extend([
+                message.now,
+                sort,
+                origin,
+                message.to,
+                message.kind as u64,
+                handle,
+            ]);
+        }
+        let told = self
+            .words
+            .tick(&sends, draws, extras, now, &mut self.out[..]);
+        match told {
+            Err((refusal, place)) => Err(TickRefused {
+                refusal,
+                place,
+                messages,
+            }),
+            Ok([draws, extras, taken]) => {
+                let due = self.settle(messages, taken);
+                Ok(Ticked { draws, extras, due })
+            }
+        }
+    }
+
+    /// The bodies of a tick: what was taken is delivered, what stays in flight gets a handle of the slab.
+    fn settle(&mut self, messages: Vec<Message<M>>, taken: usize) -> Vec<Envelope<M>> {
+        let due = self.out[..taken * RECORD_WORDS]
+            .chunks_exact(RECORD_WORDS)
+            .map(|record| match record[7] & NEW {
+                0 => envelope(record, self.bodies.deliver(record[7])),
+                _ => envelope(record, messages[(record[7] ^ NEW) as usize].body.clone()),
+            })
+            .collect();
+        let pending = self.pending() * RECORD_WORDS;
+        let mut copies = vec![0; messages.len()];
+        for record in self.words.records[..pending].chunks_exact(RECORD_WORDS) {
+            if record[7] & NEW != 0 {
+                copies[(record[7] ^ NEW) as usize] += 1;
+            }
+        }
+        let mut handles = vec![0; messages.len()];
+        for (place, message) in messages.into_iter().enumerate() {
+            if copies[place] > 0 {
+                handles[place] = self.bodies.next();
+                self.bodies.keep(message.body, copies[place]);
+            }
+        }
+        for record in self.words.records[..pending].chunks_exact_mut(RECORD_WORDS) {
+            if record[7] & NEW != 0 {
+                record[7] = handles[(record[7] ^ NEW) as usize];
+            }
+        }
+        due
+    }
+}
+
+/// Marks a handle that is a place among a tick's messages: no slab has so many bodies.
+const NEW: u64 = 1 << 63;

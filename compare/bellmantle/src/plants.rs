@@ -1,0 +1,150 @@
+//! Which plants are up and which are cut off, and the choice of the core.
+
+use crate::{sys, Fault, Origin, Refusal};
+
+/// The words of a state, and where its parts begin.
+const WORDS: usize = 49;
+const UP: usize = 1;
+const PARTITIONED: usize = 16;
+const STABLE: usize = 31;
+
+/// The state of 3 to 15 plants.
+#[derive(Clone, Debug, PartialEq, Eq)]
+pub struct Plants {
+    words: [u64; WORDS],
+}
+
+/// What becomes of a message that is due.
+#[derive(Clone, Copy, Debug, PartialEq, Eq)]
+pub enum Verdict {
+    /// It reaches its plant.
+    Deliver,
+    /// The receiver is down.
+    ReceiverDown,
+    /// The receiver, or a sending plant, is cut off.
+    CutOff,
+}
+
+/// A chosen core: its ids, rising, and how many picks were used.
+#[derive(Clone, Debug, PartialEq, Eq)]
+#[allow(missing_docs)]
+pub struct Core {
+    pub ids: Vec<usize>,
+    pub picks: usize,
+}
+
+impl Plants {
+    /// Fresh plants: all n up. 40.
+    pub fn new(n: usize) -> Result<Plants, Refusal> {
+        let mut words = [0; WORDS];
+        // SAFETY: the pointer is of an array of the declared length, borrowed mutably for the call.
+        Refusal::check(unsafe { sys::bellmantle_plants_new(n as u64, &mut words) })?;
+        Ok(Plants { words })
+    }
+
+    /// A state from words of the layout in include/bellmantle.h: the next call tests them (40, 42).
+    pub fn from_words(words: [u64; WORDS]) -> Plants {
+        Plants { words }
+    }
+
+    /// Its words.
+    pub fn words(&self) -> &[u64; WORDS] {
+        &self.words
+    }
+
+    /// Injects a fault at a tick: 40, 42, 41, 43, 44. A reboot uses the first draw and answers it as the plant's nonce.
+    pub fn apply(
+        &mut self,
+        tick: u64,
+        fault: Fault,
+        draws: &[u64],
+    ) -> Result<Option<u64>, Refusal> {
+        let (number, id) = fault.words();
+        let mut nonce = [0; 1];
+        // SAFETY: the arrays have the declared lengths, the slice is passed with its own, and none of them overlap.
+        Refusal::check(unsafe {
+            sys::bellmantle_plants_apply(
+                &mut self.words,
+                tick,
+                number,
+                id,
+                draws.as_ptr(),
+                draws.len(),
+                &mut nonce,
+            )
+        })?;
+        Ok(match fault {
+            Fault::Reboot(_) => Some(nonce[0]),
+            _ => None,
+        })
+    }
+
+    /// What becomes of a message that is due at plant `to`: 40, 42, 41.
+    pub fn verdict(&self, from: Origin, to: u64) -> Result<Verdict, Refusal> {
+        let (sort, id) = from.words();
+        let mut told = [0; 1];
+        // SAFETY: both pointers are of arrays of the declared lengths; the state is only read.
+        Refusal::check(unsafe {
+            sys::bellmantle_plants_verdict(&self.words, sort, id, to, &mut told)
+        })?;
+        Ok(match told[0] {
+            0 => Verdict::Deliver,
+            1 => Verdict::ReceiverDown,
+            _ => Verdict::CutOff,
+        })
+    }
+
+    /// Chooses the core by the lent picks: 40, 42, 45, 48, 46, 47, 43.
+    pub fn choose_core(
+        &mut self,
+        recovering: &[bool],
+        picks: &[u64],
+        full: bool,
+    ) -> Result<Core, Refusal> {
+        let flags: Vec<u64> = recovering.iter().map(|&flag| u64::from(flag)).collect();
+        let mut told = [0; 17];
+        // SAFETY: as in `apply`.
+        Refusal::check(unsafe {
+            sys::bellmantle_plants_choose_core(
+                &mut self.words,
+                flags.as_ptr(),
+                flags.len(),
+                picks.as_ptr(),
+                picks.len(),
+                u64::from(full),
+                &mut told,
+            )
+        })?;
+        let size = told[0] as usize;
+        Ok(Core {
+            ids: told[2..2 + size].iter().map(|&id| id as usize).collect(),
+            picks: told[1] as usize,
+        })
+    }
+
+    /// How many plants there are.
+    pub fn count(&self) -> usize {
+        self.words[0] as usize
+    }
+
+    /// Whether a plant runs.
+    pub fn is_up(&self, id: usize) -> bool {
+        id < self.count() && self.words[UP + id] == 1
+    }
+
+    /// Whether a plant is cut off.
+    pub fn is_partitioned(&self, id: usize) -> bool {
+        id < self.count() && self.words[PARTITIONED + id] == 1
+    }
+
+    /// The tick before which a plant's health must not change again.
+    pub fn stable_until(&self, id: usize) -> u64 {
+        assert!(id < self.count(), "there is no plant {id}");
+        self.words[STABLE + id]
+    }
+
+    /// How often a plant went down, came up, and came up without memory.
+    pub fn counts(&self) -> (u64, u64, u64) {
+        (self.words[46], self.words[47], self.words[48])
+    }
+}

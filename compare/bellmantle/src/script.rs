@@ -1,0 +1,113 @@
+//! Fault scripts.
+
+use crate::sys;
+use crate::Refusal;
+use std::fmt;
+
+/// A fault injected by hand.
+#[derive(Clone, Copy, Debug, PartialEq, Eq)]
+pub enum Fault {
+    /// Crash a plant; it keeps its state, as if paused.
+    Crash(u64),
+    /// Bring a crashed plant back with its state.
+    Restart(u64),
+    /// Bring a crashed plant back with no memory.
+    Reboot(u64),
+    /// Cut a plant off from every other plant and client.
+    Partition(u64),
+    /// Reconnect a partitioned plant.
+    Heal(u64),
+    /// Reconnect every partitioned plant.
+    HealAll,
+}
+
+impl Fault {
+    /// Its number and id, as the library's words have them.
+    pub fn words(self) -> (u64, u64) {
+        match self {
+            Fault::Crash(id) => (0, id),
+            Fault::Restart(id) => (1, id),
+            Fault::Reboot(id) => (2, id),
+            Fault::Partition(id) => (3, id),
+            Fault::Heal(id) => (4, id),
+            Fault::HealAll => (5, 0),
+        }
+    }
+
+    fn of_words(number: u64, id: u64) -> Fault {
+        match number {
+            0 => Fault::Crash(id),
+            1 => Fault::Restart(id),
+            2 => Fault::Reboot(id),
+            3 => Fault::Partition(id),
+            4 => Fault::Heal(id),
+            5 => Fault::HealAll,
+            number => panic!("the library has no fault {number}"),
+        }
+    }
+}
+
+impl fmt::Display for Fault {
+    fn fmt(&self, f: &mut fmt::Formatter<'_>) -> fmt::Result {
+        match self {
+            Fault::Crash(id) => write!(f, "crash {id}"),
+            Fault::Restart(id) => write!(f, "restart {id}"),
+            Fault::Reboot(id) => write!(f, "reboot {id}"),
+            Fault::Partition(id) => write!(f, "partition {id}"),
+            Fault::Heal(id) => write!(f, "heal {id}"),
+            Fault::HealAll => write!(f, "heal-all"),
+        }
+    }
+}
+
+/// What to inject, and at which tick.
+pub type FaultScript = Vec<(u64, Fault)>;
+
+/// Why a script is refused, and the line that it is about, counted from 1 (0 for a text too long).
+#[derive(Clone, Copy, Debug, PartialEq, Eq)]
+#[allow(missing_docs)]
+pub struct ScriptError {
+    pub refusal: Refusal,
+    pub line: u32,
+}
+
+impl fmt::Display for ScriptError {
+    fn fmt(&self, f: &mut fmt::Formatter<'_>) -> fmt::Result {
+        write!(f, "line {}: {}", self.line, self.refusal)
+    }
+}
+
+impl std::error::Error for ScriptError {}
+
+/// The words of an event: tick, fault, id.
+pub const EVENT_WORDS: usize = 3;
+
+/// The shortest event that a text can hold, `0 heal 0` and its line feed, has nine bytes.
+const EVENT_BYTES: usize = 9;
+
+/// Parses a script with one `TICK FAULT` for each line, `#` starting a comment.
+pub fn parse_script(text: &[u8]) -> Result<FaultScript, ScriptError> {
+    let mut words = vec![0; (text.len() / EVENT_BYTES + 1) * EVENT_WORDS];
+    let count = parse_script_into(text, &mut words)?;
+    Ok(words[..count * EVENT_WORDS]
+        .chunks_exact(EVENT_WORDS)
+        .map(|event| (event[0], Fault::of_words(event[1], event[2])))
+        .collect())
+}
+
+/// The same into lent words, three for each event; how many events there are. On an error no word is changed.
+pub fn parse_script_into(text: &[u8], events: &mut [u64]) -> Result<usize, ScriptError> {
+    // SAFETY: both pointers come from slices that are borrowed for the whole call, with their own lengths, and `events` is
+    // borrowed mutably, so that the two do not overlap.
+    let packed = unsafe {
+        sys::bellmantle_parse_script(text.as_ptr(), text.len(), events.as_mut_ptr(), events.len())
+    };
+    let low = packed as u32;
+    match packed >> 32 {
+        0 => Ok(low as usize),
+        number => Err(ScriptError {
+            refusal: Refusal::of(number),
+            line: low,
+        }),
+    }
+}

@@ -1,0 +1,66 @@
+//! Fault scripts through the safe crate.
+
+use bellmantle::{parse_script, parse_script_into, Fault, Refusal};
+
+#[test]
+fn the_sample_of_the_rules() {
+    let script = parse_script(b"20 heal-all\n5 crash 1 # east\n").unwrap();
+    assert_eq!(script, [(5, Fault::Crash(1)), (20, Fault::HealAll)]);
+    assert_eq!(script[0].1.to_string(), "crash 1");
+}
+
+#[test]
+fn every_fault_and_equal_ticks_in_file_order() {
+    let script = parse_script(b"7 heal 4\n7 restart 1\n7 reboot 2\n7 partition 3\n").unwrap();
+    let faults = [
+        Fault::Heal(4),
+        Fault::Restart(1),
+        Fault::Reboot(2),
+        Fault::Partition(3),
+    ];
+    assert_eq!(script, faults.map(|fault| (7, fault)));
+}
+
+#[test]
+fn one_thousand_five_hundred_is_a_bad_tick() {
+    let error = parse_script(b"# night\n1,500 crash 1\n").unwrap_err();
+    assert_eq!((error.refusal, error.line), (Refusal::BadTick, 2));
+    assert_eq!(
+        error.to_string(),
+        "line 2: the tick is no number (refusal 4)"
+    );
+}
+
+#[test]
+fn every_refusal() {
+    let long = vec![b' '; 65_537];
+    let cases: [(&[u8], Refusal, u32); 7] = [
+        (&long, Refusal::TooLong, 0),
+        (b"\n\x80", Refusal::NotAscii, 2),
+        (b"5", Refusal::OneWord, 1),
+        (b"-0 crash 1", Refusal::BadTick, 1),
+        (b"5 Crash 1", Refusal::UnknownFault, 1),
+        (b"5 crash", Refusal::MissingId, 1),
+        (b"5 crash x", Refusal::BadId, 1),
+    ];
+    for (text, refusal, line) in cases {
+        let error = parse_script(text).unwrap_err();
+        assert_eq!((error.refusal, error.line), (refusal, line));
+    }
+}
+
+#[test]
+fn a_refusal_changes_no_word() {
+    let mut words = [9; 5];
+    assert_eq!(parse_script_into(b"5 crash 1", &mut words), Ok(1));
+    assert_eq!(words, [5, 0, 1, 9, 9]);
+    let error = parse_script_into(b"5 crash 1\n6 crash 2", &mut words).unwrap_err();
+    assert_eq!((error.refusal, error.line), (Refusal::NoRoom, 2));
+    assert_eq!(words, [5, 0, 1, 9, 9]);
+}
+
+#[test]
+fn as_many_events_as_a_text_can_hold() {
+    let text = b"0 heal 0\n".repeat(7_281);
+    assert_eq!(parse_script(&text).unwrap().len(), 7_281);
+}
