@@ -44,7 +44,6 @@ use denote.Triple.Walked.{says, Stays, stay-none-slice, walkOf, goes-none-slice,
 use denote.Exit.{yes}
 use denote.Triple.Clauses.{ensured, lasts}
 use Rattle.words.specs.Words.{wordFrom, firstWords}
-use Rattle.words.specs.declared.Bounds.{Bounds}
 use Rattle.words.specs.declared.FirstWords.{FirstWords}
 use Rattle.words.specs.declared.Reader.{Reader}
 use Rattle.words.specs.declared.Read.{Read}
@@ -53,7 +52,6 @@ use Rattle.words.proofs.Reader as T
 use Rattle.words.proofs.Reader.Laws as T′
 use Rattle.words.proofs.Read as R
 use Rattle.words.proofs.Read.Laws as R′
-use Rattle.words.proofs.Bounds.Laws as S′
 use Rattle.words.proofs.FirstWords as F
 use Rattle.words.proofs.FirstWords.Laws as F′
 use Rattle.words.proofs.new as new
@@ -94,20 +92,26 @@ still-within h ok = from-in (now (h .line)) (h .at) ok .1
 abbrev front : RefT (List ℕ) → Reader
 front s = record { line = s; at = 0 }
 
-front-within : (s : RefT (List ℕ)) → Within (front s)
-front-within s = omega arith
+abbrev read₁ : RefT (List ℕ) → Read
+read₁ s = after (front s)
 
-abbrev first-read : RefT (List ℕ) → Read
-first-read s = after (front s)
+abbrev read₂ : RefT (List ℕ) → Read
+read₂ s = after (read₁ s .rest)
 
-abbrev second-read : RefT (List ℕ) → Read
-second-read s = after (first-read s .rest)
-
-abbrev third-read : RefT (List ℕ) → Read
-third-read s = after (second-read s .rest)
+abbrev read₃ : RefT (List ℕ) → Read
+read₃ s = after (read₂ s .rest)
 
 abbrev words : RefT (List ℕ) → FirstWords
-words s = record { tick = first-read s .word; name = second-read s .word; id = third-read s .word }
+words s = record { tick = read₁ s .word; name = read₂ s .word; id = read₃ s .word }
+
+within₀ : (s : RefT (List ℕ)) → Within (front s)
+within₀ s = omega arith
+
+within₁ : (s : RefT (List ℕ)) → Within (read₁ s .rest)
+within₁ s = still-within (front s) (within₀ s)
+
+within₂ : (s : RefT (List ℕ)) → Within (read₂ s .rest)
+within₂ s = still-within (read₁ s .rest) (within₁ s)
 
 words-are : (s : RefT (List ℕ)) → words s ≡ firstWords (now s)
 unfolding firstWords
@@ -125,6 +129,18 @@ module _ {M : Type 1} (𝓤 : URA M) (H : Heap 𝓤) (A : Atoms 𝓤) (W : Given
   -- the machine value that s has
   abbrev v : Val
   v = sliceVal (s .ptr) (length (s .now))
+
+  abbrev h₀ : Reader
+  h₀ = front s
+
+  abbrev n₁ : Read
+  n₁ = read₁ s
+
+  abbrev n₂ : Read
+  n₂ = read₂ s
+
+  abbrev n₃ : Read
+  n₃ = read₃ s
 
   -- the lifetime in the signature, and as a local of the body has it
   abbrev α : NamedLft
@@ -193,9 +209,9 @@ module _ {M : Type 1} (𝓤 : URA M) (H : Heap 𝓤) (A : Atoms 𝓤) (W : Given
   typed-low : (n : Read) (u : Val) → Is (E (κ, tt)) n (u ∷ []) → Holds (hasTy (R′.mir erased) (R′.lowered n)) × WT (R′.lowered n)
   typed-low n u is = typed n (R′.lowered n) (LL.owes D L n (LL.owed D L n (u ∷ []) is))
 
-  found : (u₁ u₂ u₃ : Val) → Is (E (κ, tt)) (first-read s) (u₁ ∷ []) → Is (E (κ, tt)) (second-read s) (u₂ ∷ []) → Is (E (κ, tt)) (third-read s) (u₃ ∷ []) → Is F.the-row (words s) (F′.lowered (words s) ∷ [])
+  found : (u₁ u₂ u₃ : Val) → Is (E (κ, tt)) (n₁) (u₁ ∷ []) → Is (E (κ, tt)) (n₂) (u₂ ∷ []) → Is (E (κ, tt)) (n₃) (u₃ ∷ []) → Is F.the-row (words s) (F′.lowered (words s) ∷ [])
   found u₁ u₂ u₃ is₁ is₂ is₃ =
-      LL.owes F.the-type F′.the-laws (words s) (LL.owed D L (first-read s) (u₁ ∷ []) is₁ .0, (LL.owed D L (second-read s) (u₂ ∷ []) is₂ .0, (LL.owed D L (third-read s) (u₃ ∷ []) is₃ .0, tt)))
+      LL.owes F.the-type F′.the-laws (words s) (LL.owed D L (n₁) (u₁ ∷ []) is₁ .0, (LL.owed D L (n₂) (u₂ ∷ []) is₂ .0, (LL.owed D L (n₃) (u₃ ∷ []) is₃ .0, tt)))
 
   exits : Is F.the-row (words s) (F′.lowered (words s) ∷ []) → ent 𝓤 (⋆ 𝓤 H A ((‵ (flft κ q) ⊛ ‵ ftrue) ∷ ‵ Own ∷ [])) (Post (F′.lowered (words s)))
   exits is =
@@ -206,13 +222,6 @@ module _ {M : Type 1} (𝓤 : URA M) (H : Heap 𝓤) (A : Atoms 𝓤) (W : Given
   module _ (C : Calls 𝓤 H) (Λ : Loops 𝓤 H) (fm : FmC 𝓤 H (W .laws) C) (known-new : Triple 𝓤 (C #words·new) (New 𝓤 H A mem run)) (known-next : Triple 𝓤 (C #words·next) (Next 𝓤 H A mem run)) where
     walk : Is (ShrSlice (named 0) κ u8) s (v ∷ []) → ent 𝓤 (onEntry 𝓤 H A first.signature (κ, tt) (q, tt) (s, tt) (v ∷ [], tt)) (WpFn 𝓤 H C Λ code.function (v ∷ []) Post)
     walk p =
-        let h₀ = front s in
-        let n₁ = first-read s in
-        let n₂ = second-read s in
-        let n₃ = third-read s in
-        let ok₀ = front-within s in
-        let ok₁ = still-within h₀ ok₀ in
-        let ok₂ = still-within (n₁ .rest) ok₁ in
         qed W (raw (onEntry 𝓤 H A first.signature (κ, tt) (q, tt) (s, tt) (v ∷ [], tt)) ∷ []) ∵ enter ! C Λ code.function (v ∷ []) _ $
         alloc1 ! (λ l₀. alloc1 ! (λ l₁. alloc1 ! (λ l₂. alloc1 ! (λ l₃. alloc1 ! (λ l₄. alloc1 ! (λ l₅. alloc1 ! (λ l₆. alloc1 ! (λ l₇. alloc1 ! (λ l₈. alloc1 ! (λ l₉. alloc1 ! (λ l₁₀. alloc0 ! $ params1 ! $
         pass1 ! (init ! 18 refl (shr-slice-lawful 𝓤 H A W (named 0) κ u8 .typed s (v ∷ []) p .0)) $ pass0 ! $
@@ -225,7 +234,7 @@ module _ {M : Type 1} (𝓤 : URA M) (H : Heap 𝓤) (A : Atoms 𝓤) (W : Given
         peeks ! (B (κ, tt)) (Is (B (κ, tt))) (shows 𝓤 H A (B (κ, tt))) h₀ (u₀ ∷ []) (λ is₀.
         land ! (from ! (stop !)) (init ! 13 refl (LL.lawful (T.the-type αᵉ) (T′.the-laws αᵉ) 𝓤 H A W .typed h₀ _ is₀ .0)) $
         -- `next`, of the reader at the front
-        use2 W (raw (Next 𝓤 H A mem run .pre (to-next h₀ u₀))) (goes-next h₀ u₀ ok₀) $
+        use2 W (raw (Next 𝓤 H A mem run .pre (to-next h₀ u₀))) (goes-next h₀ u₀ (within₀ s)) $
         calls-at ! fm (Next 𝓤 H A mem run) known-next (to-next h₀ u₀) (and-then ! (load ! (from ! (stop !)) (look ! 12 refl)) (no-more !)) (λ u₁.
         use1 W (later (some (λ (n : Read). ((‵ (flft κ q) ⊛ ‵ ftrue) ⊛ ‵ (E (κ, tt) .own n (u₁ ∷ []))) ⊛ raw (ensured 𝓤 H A next.ended (next.clauses 𝓤 H A mem run) (κ, tt) (h₀, tt) tt n)))) (id⊢ 𝓤 _) $ await ! tt $ pick ! (λ m₁.
         split ! $ move ! (1 ∷ []) $ use1 W (raw (fact 𝓤 (m₁ ≡ n₁))) (next-said h₀ m₁) $ heard ! (m₁ ≡ n₁) (λ e₁. split ! $ rewrite ! 1 (λ (n : Read). ‵ (E (κ, tt) .own n (u₁ ∷ []))) e₁ refl $ move ! (1 ∷ []) $
@@ -233,7 +242,7 @@ module _ {M : Type 1} (𝓤 : URA M) (H : Heap 𝓤) (A : Atoms 𝓤) (W : Given
         land ! (from ! (stop !)) (init ! 19 refl (typed n₁ u₁ is₁)) $ rewrite ! 19 (λ (w : Val). ‵ (fat fullShare (R′.mir erased) l₂ 0 w)) (spelt n₁ u₁ is₁) refl $
         assigns ! (of-opd ! (load ! (from ! (fld ! refl (stop !))) (look-in ! 19 (sub ! 1 refl (whole !))))) (from ! (stop !)) (init ! 11 refl (tt, typed-low n₁ u₁ is₁ .1 .1 .0)) $
         -- `next`, of the reader behind the first word
-        use2 W (raw (Next 𝓤 H A mem run .pre (to-next (n₁ .rest) (T′.lowered (n₁ .rest))))) (goes-again n₁ u₁ ok₁) $
+        use2 W (raw (Next 𝓤 H A mem run .pre (to-next (n₁ .rest) (T′.lowered (n₁ .rest))))) (goes-again n₁ u₁ (within₁ s)) $
         calls-at ! fm (Next 𝓤 H A mem run) known-next (to-next (n₁ .rest) (T′.lowered (n₁ .rest))) (and-then ! (load ! (from ! (stop !)) (look ! 10 refl)) (no-more !)) (λ u₂.
         use1 W (later (some (λ (n : Read). ((‵ (flft κ q) ⊛ ‵ ftrue) ⊛ ‵ (E (κ, tt) .own n (u₂ ∷ []))) ⊛ raw (ensured 𝓤 H A next.ended (next.clauses 𝓤 H A mem run) (κ, tt) (n₁ .rest, tt) tt n)))) (id⊢ 𝓤 _) $ await ! tt $ pick ! (λ m₂.
         split ! $ move ! (1 ∷ []) $ use1 W (raw (fact 𝓤 (m₂ ≡ n₂))) (next-said (n₁ .rest) m₂) $ heard ! (m₂ ≡ n₂) (λ e₂. split ! $ rewrite ! 1 (λ (n : Read). ‵ (E (κ, tt) .own n (u₂ ∷ []))) e₂ refl $ move ! (1 ∷ []) $
@@ -241,7 +250,7 @@ module _ {M : Type 1} (𝓤 : URA M) (H : Heap 𝓤) (A : Atoms 𝓤) (W : Given
         land ! (from ! (stop !)) (init ! 17 refl (typed n₂ u₂ is₂)) $ rewrite ! 17 (λ (w : Val). ‵ (fat fullShare (R′.mir erased) l₃ 0 w)) (spelt n₂ u₂ is₂) refl $
         assigns ! (of-opd ! (load ! (from ! (fld ! refl (stop !))) (look-in ! 17 (sub ! 1 refl (whole !))))) (from ! (stop !)) (init ! 9 refl (tt, typed-low n₂ u₂ is₂ .1 .1 .0)) $
         -- `next`, of the reader behind the second word
-        use2 W (raw (Next 𝓤 H A mem run .pre (to-next (n₂ .rest) (T′.lowered (n₂ .rest))))) (goes-again n₂ u₂ ok₂) $
+        use2 W (raw (Next 𝓤 H A mem run .pre (to-next (n₂ .rest) (T′.lowered (n₂ .rest))))) (goes-again n₂ u₂ (within₂ s)) $
         calls-at ! fm (Next 𝓤 H A mem run) known-next (to-next (n₂ .rest) (T′.lowered (n₂ .rest))) (and-then ! (load ! (from ! (stop !)) (look ! 8 refl)) (no-more !)) (λ u₃.
         use1 W (later (some (λ (n : Read). ((‵ (flft κ q) ⊛ ‵ ftrue) ⊛ ‵ (E (κ, tt) .own n (u₃ ∷ []))) ⊛ raw (ensured 𝓤 H A next.ended (next.clauses 𝓤 H A mem run) (κ, tt) (n₂ .rest, tt) tt n)))) (id⊢ 𝓤 _) $ await ! tt $ pick ! (λ m₃.
         split ! $ move ! (1 ∷ []) $ use1 W (raw (fact 𝓤 (m₃ ≡ n₃))) (next-said (n₂ .rest) m₃) $ heard ! (m₃ ≡ n₃) (λ e₃. split ! $ rewrite ! 1 (λ (n : Read). ‵ (E (κ, tt) .own n (u₃ ∷ []))) e₃ refl $ move ! (1 ∷ []) $
