@@ -86,12 +86,51 @@ pub fn word_from(line: &[u8], place: usize) -> Bounds
     Bounds { start, end }
 }
 
+// A reader of a line's words: the line, and the place at or after which the next word is looked for.
+pub struct Reader<'a> {
+    pub line: &'a [u8],
+    pub at: usize,
+}
+
+// A word that was read, and the reader behind it.
+pub struct Read<'a> {
+    pub word: Bounds,
+    pub rest: Reader<'a>,
+}
+
+// A reader at the front of a line.
+pub fn new<'a>(line: &'a [u8]) -> Reader<'a>
+    ensures { λ r. ⌜ (r .line ≡ line .entry) × (r .at ≡ 0) ⌝ }
+{
+    Reader { line, at: 0 }
+}
+
+// The next word, and the reader behind it. Where no word is left the word is empty and stands at the line's end.
+pub fn next<'a>(r: Reader<'a>) -> Read<'a>
+    requires { ⌜ r .at ≤ length (now (r .line)) ⌝ }
+    ensures word { λ n. ⌜ n .word ≡ wordFrom (now (r .entry .line)) (r .entry .at) ⌝ }
+    ensures rest { λ n. ⌜ (n .rest .line ≡ r .entry .line) × (n .rest .at ≡ wordFrom (now (r .entry .line)) (r .entry .at) .end) ⌝ }
+{
+    let word = word_from(r.line, r.at);
+    Read {
+        word,
+        rest: Reader {
+            line: r.line,
+            at: word.end,
+        },
+    }
+}
+
 // Where a line's first three words stand.
 pub fn first_words(line: &[u8]) -> FirstWords
     ensures { λ r. ⌜ r ≡ firstWords (now (line .entry)) ⌝ }
 {
-    let tick = word_from(line, 0);
-    let name = word_from(line, tick.end);
-    let id = word_from(line, name.end);
-    FirstWords { tick, name, id }
+    let tick = next(new(line));
+    let name = next(tick.rest);
+    let id = next(name.rest);
+    FirstWords {
+        tick: tick.word,
+        name: name.word,
+        id: id.word,
+    }
 }
