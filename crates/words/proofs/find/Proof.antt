@@ -1,4 +1,4 @@
--- `script::words::find` meets its contract, by the walk to the first byte that is the one looked for. Assumes nothing.
+-- `words::find` meets its contract, by the walk to the first byte that is the one looked for. Assumes nothing.
 use borrow.Author.Tests.{eq-eqb, ne-eqb}
 use native.Mathlib.Omega.{arith}
 use mathlib.Core.Path.{_≡_, refl, sym}

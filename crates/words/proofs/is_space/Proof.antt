@@ -1,4 +1,4 @@
--- `script::words::is_space` meets its contract. Assumes nothing.
+-- `words::is_space` meets its contract. Assumes nothing.
 use borrow.Author.Tests.{eq-eqb, ne-eqb, le-leb, lt-leb}
 use native.Mathlib.Omega.{arith}
 use mathlib.Core.Bool.{true, false, or-true, or-false}

@@ -1,4 +1,4 @@
--- `script::words::skip_word` meets its contract, by the walk to the first white space. Assumes nothing.
+-- `words::skip_word` meets its contract, by the walk to the first white space. Assumes nothing.
 use native.Mathlib.Omega.{arith}
 use mathlib.Core.Bool.{not}
 use mathlib.Core.Path.{_≡_, refl, sym, ap, _∙_}

@@ -1,4 +1,4 @@
--- `script::words::word_from` meets its contract. Assumes nothing.
+-- `words::word_from` meets its contract. Assumes nothing.
 use borrow.Author.Needs.{needs}
 use mathlib.Core.Path.{_≡_, ap, _∙_}
 use mathlib.Core.List.{List}
