@@ -231,6 +231,14 @@ impl<M: Clone> Network<M> {
         self.words.head()[5] as usize
     }
 
+    /// The tick at which the next message is due, if one is in flight: a take before it takes none.
+    pub fn next_due(&self) -> Option<u64> {
+        match self.pending() {
+            0 => None,
+            _ => Some(self.words.records()[0]),
+        }
+    }
+
     /// Messages in flight, in delivery order.
     pub fn in_flight(&self) -> impl Iterator<Item = Envelope<&M>> {
         self.words.records()[..self.pending() * RECORD_WORDS]

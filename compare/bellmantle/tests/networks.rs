@@ -39,6 +39,7 @@ fn the_worked_run() {
         .map(|envelope| envelope.due_at)
         .collect();
     assert_eq!(dues, [12, 17]);
+    assert_eq!(network.next_due(), Some(12));
     let taken = network.take_due(12).unwrap();
     assert_eq!(taken.len(), 1);
     assert_eq!(taken[0].message, "copper");
@@ -46,6 +47,7 @@ fn the_worked_run() {
     assert_eq!((taken[0].sent_at, taken[0].due_at), (10, 12));
     assert!(network.take_due(16).unwrap().is_empty());
     assert_eq!(network.take_due(17).unwrap()[0].message, "copper");
+    assert_eq!(network.next_due(), None);
     let summary = network.summary();
     assert_eq!((summary.sent, summary.delivered), (1, 2));
     assert_eq!((summary.lost, summary.replayed, summary.delayed), (0, 1, 1));

@@ -85,6 +85,10 @@ impl Network {
     }
 
     pub fn take_due(&mut self, now: u64) -> Vec<Envelope> {
+        // Most ticks have none.
+        if self.network.next_due().map_or(true, |due| due > now) {
+            return Vec::new();
+        }
         let due = self.network.take_due(now).unwrap_or_else(|r| refused(r));
         self.count();
         due.into_iter().map(envelope).collect()
