@@ -42,14 +42,7 @@ impl<M: Clone> JournaledNetwork<M> {
 
     /// The counters.
     pub fn summary(&self) -> MessageSummary {
-        let head = self.words.head();
-        MessageSummary {
-            sent: head[7],
-            delivered: head[8],
-            lost: head[9],
-            replayed: head[10],
-            delayed: head[11],
-        }
+        self.words.summary()
     }
 
     /// Forgets the calls held: no rewind goes past a mark. Bodies that are not in flight are dropped.

@@ -216,14 +216,7 @@ impl<M: Clone> Network<M> {
 
     /// The counters.
     pub fn summary(&self) -> MessageSummary {
-        let head = self.words.head();
-        MessageSummary {
-            sent: head[7],
-            delivered: head[8],
-            lost: head[9],
-            replayed: head[10],
-            delayed: head[11],
-        }
+        self.words.summary()
     }
 
     /// Number of messages in flight.

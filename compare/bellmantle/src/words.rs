@@ -1,6 +1,6 @@
 //! A network's words, lent to the library in place, with no bodies beside them.
 
-use crate::network::{NetworkOptions, Sent};
+use crate::network::{MessageSummary, NetworkOptions, Sent};
 use crate::sys;
 use crate::Refusal;
 
@@ -53,6 +53,17 @@ impl Words {
     /// The records' words.
     pub fn records(&self) -> &[u64; RECORDS_WORDS] {
         &self.records
+    }
+
+    /// The counters.
+    pub fn summary(&self) -> MessageSummary {
+        MessageSummary {
+            sent: self.head[7],
+            delivered: self.head[8],
+            lost: self.head[9],
+            replayed: self.head[10],
+            delayed: self.head[11],
+        }
     }
 
     /// Other options: 23, 20, 21, 22.
