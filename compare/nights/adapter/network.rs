@@ -109,8 +109,8 @@ impl Network {
         lent.drawn = drawn;
         lent.draws[..drawn].fill_with(|| copy.gen());
         if delayed {
-            lent.sampled = 2;
-            lent.extras.fill_with(|| self.sampler.extra(&mut copy));
+            lent.sampled = 1 + usize::from(options.packet_replay_probability > 0.0);
+            lent.extras[..lent.sampled].fill_with(|| self.sampler.extra(&mut copy));
         }
         lent
     }
