@@ -284,7 +284,7 @@ fn records_good(w: &[u64; queue::WORDS], n: usize, seq: u64) -> bool
     if !queue::none_twice(w, n) {
         return false;
     }
-    queue::zero_from(w, n * queue::RECORD_SIZE)
+    queue::zero_from(w, n)
 }
 
 // Whether a network is well formed: its words lent, the rest of it by value.

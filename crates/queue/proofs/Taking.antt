@@ -8,7 +8,7 @@ use native.Mathlib.Numerals.{add-one}
 use borrow.Author.Tests.{le-leb, lt-leb}
 use lib.Dec.{leb}
 use lib.ListN.{length, take, drop, getD, set, replicate, length-take, length-drop, length-append, length-replicate, getD-replicate, take-append-drop}
-use lib.Seq.{drop-cons, take-suc, set-at, length-take-le, getD-take, getD-drop, getD-append-add, take-take, take-all, take-at, drop-append-add, drop-drop}
+use lib.Seq.{drop-cons, take-suc, set-at, length-take-le, getD-append-add, take-take, take-all, take-at, drop-append-add, drop-drop}
 use Rattle.nights.specs.Record.{Record, wordsOf, recs}
 use Rattle.queue.specs.Places.{front, back, dueCount, leftWords, goneWords}
 use Rattle.queue.proofs.Inserting.{length-recs, wordsOf-recs, wordsOf-take, wordsOf-drop, peel}
@@ -22,19 +22,7 @@ fill-step t l r m v h k e f =
     let q : length (take m t) ≡ m = length-take-le m t (omega arith) in
     rw (f, e, add-one m, drop-cons l m 0 k, take-suc t m 0 h, append-assoc) (set-at (take m t) _ _ _ m q)
 
--- what lies ahead is as it was
-pub ahead : (t l r : List ℕ) (m k : ℕ) → m ≤ length t → r ≡ filled t l m → getD r (m + k) 0 ≡ getD l (m + k) 0
-ahead t l r m k h f =
-    let q : length (take m t) ≡ m = length-take-le m t h in
-    ap (λ (x : List ℕ). getD x (m + k) 0) f
-    ∙ (ap (λ (j : ℕ). getD (filled t l m) (j + k) 0) (sym q) ∙ (getD-append-add (take m t) (drop m l) k 0 ∙ getD-drop m l k 0))
-
--- `down`
-pub moved : (l : List ℕ) (k n m : ℕ) → m + k < n → getD l (m + k) 0 ≡ getD (drop k (take n l)) m 0
-moved l k n m h =
-    let z : k + m ≡ m + k = omega arith in
-    sym (getD-drop k (take n l) m 0 ∙ rw z (getD-take n l (m + k) 0 h))
-
+-- the part that `down` moves
 pub length-part : (l : List ℕ) (k n : ℕ) → k ≤ n → n ≤ length l → length (drop k (take n l)) ≡ n - k
 length-part l k n h q = simp (length-drop, length-take) (omega arith)
 

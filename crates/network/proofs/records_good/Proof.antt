@@ -18,9 +18,6 @@ none-twice-requires c κs = search needs
 returns-2 : tie.Need-returns-2
 returns-2 c = numbers-fail (c .before .before .before .before .args .w .now) (c .before .before .before .before .args .n) (c .before .before .before .before .args .seq) (sym (c .before .none-twice .ensures) ∙ not-true _ (c .if2 .taken))
 
-mul-zero-from : tie.Need-mul-zero-from
-mul-zero-from c = search needs
-
 zero-from-requires : tie.Need-zero-from-requires
 zero-from-requires c κs = search needs
 
@@ -37,6 +34,5 @@ records-good-spec =
     returns
     none-twice-requires
     returns-2
-    mul-zero-from
     zero-from-requires
     returns-3)
