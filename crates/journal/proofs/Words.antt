@@ -12,8 +12,8 @@ use lib.Seq.{getD-take, take-length, paste}
 use Rattle.nights.specs.Net.{fresh}
 use Rattle.nights.specs.Journal.{done, refused, held, used, overwrite, logged, goodHeader, verdict, journalTests, doMark, step}
 use Rattle.nights.proofs.Kept.{both}
-use Rattle.network.specs.Options.{perfectOptions}
-use Rattle.network.proofs.WholeForm.{first, second}
+use Rattle.fates.specs.Options.{perfectOptions}
+use Rattle.fates.proofs.Failing.{first, second}
 use Rattle.journal.specs.Calls.{marked}
 
 -- half of it, rounded down

@@ -1,14 +1,14 @@
 // The journal of a network's calls, in words that the host lends: word 0 says how many calls it holds, word 1 how many words are
 // used, and behind them stands a record for each call, enough to undo it. A journaled call is the plain call with its record; a
 // rewind goes back over the last k; a mark forgets them, so that no rewind goes past it. Any words may be lent.
+use fates::NetworkOptions;
+use fates::Refusal;
+use fates::Settled;
 use network::Counted;
 use network::Network;
-use network::NetworkOptions;
 use network::Next;
-use network::Refusal;
 use network::SendAnswer;
 use network::Sent;
-use network::Settled;
 use network::Taken;
 ghost use mathlib.Core.Path.{_≡_};
 ghost use mathlib.Core.Bool.{true};
@@ -19,10 +19,11 @@ ghost use Rattle.nights.specs.Record.{wordsOf};
 ghost use Rattle.nights.specs.Net.{keep, isDue, bit, goodOptions};
 ghost use Rattle.nights.specs.Draws.{decided};
 ghost use Rattle.nights.specs.Journal.{used, overwrite, logged, goodHeader, verdict, journalTests, mark, rewind, done, refused};
-ghost use Rattle.network.specs.Answers.{number, settledOf, countedOf, sentOf, counting, sending};
+ghost use Rattle.fates.specs.Answers.{number, settledOf};
+ghost use Rattle.network.specs.Answers.{countedOf, sentOf, counting, sending};
 ghost use Rattle.network.specs.Forms.{plainOf};
 ghost use Rattle.network.specs.Calls.{written};
-ghost use Rattle.network.specs.Options.{plainOptions};
+ghost use Rattle.fates.specs.Options.{plainOptions};
 ghost use Rattle.journal.specs.Calls.{sends, takes, chooses, answerOf, wordsAfter, networkAfter, markAnswer, markWords, optionsRecord};
 
 // The words of a take's own output, beside which its record's sort and length fit.

@@ -13,18 +13,12 @@ use Rattle.queue.specs.Form.{inOrder, distinct, zeros}
 use Rattle.queue.proofs.Formed.{walks-tell}
 use Rattle.nights.proofs.Kept.{both}
 use Rattle.queue.proofs.Inserting.{length-recs}
+use Rattle.fates.proofs.Failing.{first, second}
 use Rattle.network.specs.declared.Network.{Network}
-use Rattle.network.specs.Options.{plainOptions}
+use Rattle.fates.specs.Options.{plainOptions}
 use Rattle.network.specs.Forms.{isFormed, recordsFormed}
 
 -- ---- of a conjunction
-
-pub first : (a b : Bool) → a ≡ false → a && b ≡ false
-first a b e = rw e
-
-pub second : (a b : Bool) → b ≡ false → a && b ≡ false
-second true b e = e
-second false b e = refl
 
 joined : (a b z : Bool) → (a && b) && z ≡ a && (b && z)
 joined true b z = refl

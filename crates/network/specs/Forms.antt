@@ -12,7 +12,7 @@ use Rattle.queue.specs.Packed.{packed}
 use Rattle.network.specs.declared.Head.{Head}
 use Rattle.network.specs.declared.Network.{Network}
 use Rattle.network.specs.declared.Letter.{Letter as Told}
-use Rattle.network.specs.Options.{plainOptions, structOptions}
+use Rattle.fates.specs.Options.{plainOptions, structOptions}
 
 abbrev pub plainOf : Network → Plain
 plainOf s =

@@ -10,7 +10,7 @@ use Rattle.nights.specs.Journal.{goodHeader}
 use Rattle.network.specs.declared.Network.{Network}
 use Rattle.network.specs.Answers.{countedOf}
 use Rattle.network.specs.Forms.{isFormed}
-use Rattle.network.proofs.OptionForms.{Held}
+use Rattle.fates.proofs.OptionForms.{Held}
 use Rattle.undo.proofs.Telling.{ill-told, well-told}
 use Rattle.journal.proofs.Words.{Header, good-header, headed}
 use Rattle.journal.proofs.Rewinds.{ill, bad-header, too-far, no-fit, went-back}

@@ -7,8 +7,8 @@ use Rattle.nights.specs.Net.{Plain as Call, choose}
 use Rattle.nights.specs.Journal.{done, undoWords, verdict, journalTests}
 use Rattle.nights.proofs.Kept.{options-good}
 use Rattle.network.specs.declared.Network.{Network}
-use Rattle.network.specs.Options.{plainOptions}
-use Rattle.network.specs.Answers.{settledOf}
+use Rattle.fates.specs.Options.{plainOptions}
+use Rattle.fates.specs.Answers.{settledOf}
 use Rattle.network.specs.Forms.{plainOf}
 use Rattle.network.specs.Calls.{callAnswer}
 use Rattle.network.proofs.Maps.{plain-formed}

@@ -7,8 +7,8 @@ use Rattle.nights.specs.Record.{Record}
 use Rattle.nights.specs.Net.{dues, copies}
 use Rattle.queue.specs.Places.{insertedWords, insertedAll}
 use Rattle.queue.proofs.Packing.{length-inserted}
-use Rattle.network.specs.declared.Decision.{Decision}
-use Rattle.network.specs.Answers.{decisionOf}
+use Rattle.fates.specs.declared.Decision.{Decision}
+use Rattle.fates.specs.Answers.{decisionOf}
 use Rattle.network.specs.Forms.{plainLetter}
 use borrow.Author.Needs.{needs}
 use Rattle.network.proofs.queue_copies.Statement.{statement}
