@@ -8,18 +8,15 @@ use fates::Settled;
 ghost use mathlib.Core.Path.{_≡_};
 ghost use mathlib.Core.Bool.{true};
 ghost use mathlib.Core.List.{[]};
-ghost use Prim.Native.Nat.{_+_, _≤_, _<_, _^_};
 ghost use lib.ListN.{length};
 ghost use Rattle.nights.specs.Record.{wordsOf};
-ghost use Rattle.nights.specs.Net.{keep, isDue, goodOptions, goodCounts, fresh, copies, dues, send, take, choose};
+ghost use Rattle.nights.specs.Net.{keep, isDue, goodOptions, fresh, send, take, choose};
 ghost use Rattle.nights.specs.Draws.{decided};
 ghost use Rattle.nights.specs.Journal.{verdict, optionTests};
-ghost use Rattle.queue.specs.Plain.{plainRecord};
-ghost use Rattle.queue.specs.Places.{insertedAll};
 ghost use Rattle.fates.specs.Options.{plainOptions};
 ghost use Rattle.fates.specs.Answers.{settledOf, decisionOf};
 ghost use Rattle.network.specs.Answers.{countedOf, sentOf, counting, sending, fateAnswer};
-ghost use Rattle.network.specs.Forms.{plainOf, structOf, headOf, joined, letterOf, plainLetter, copyAt, isFormed, recordsFormed};
+ghost use Rattle.network.specs.Forms.{plainOf, structOf, headOf, joined, letterOf, isFormed};
 ghost use Rattle.network.specs.Calls.{firstNetwork, callAnswer, callNetwork, formAnswer, listAnswer, written};
 
 // The answer of a call that tells a number of records.
@@ -83,16 +80,6 @@ pub struct HeadSent {
     pub answer: SendAnswer,
 }
 
-// What a send is told of its message.
-struct Letter {
-    now: u64,
-    sort: u64,
-    origin: u64,
-    to: u64,
-    kind: u64,
-    handle: u64,
-}
-
 pub struct Network {
     pub options: NetworkOptions,
     // Messages in flight, in the order of (due tick, number): eight words each, and zeros behind them.
@@ -111,58 +98,6 @@ pub struct Network {
 
 // ---- Well-formedness
 
-// The counters, over whole numbers. The sums are taken once their parts are known to be small, so none wraps.
-fn counts_good(
-    pending: usize,
-    seq: u64,
-    sent: u64,
-    delivered: u64,
-    lost: u64,
-    replayed: u64,
-    delayed: u64,
-) -> bool
-    ensures { λ b. ⌜ b ≡ goodCounts pending seq sent delivered lost replayed delayed ⌝ }
-{
-    if queue::CAPACITY < pending {
-        return false;
-    }
-    if Network::SENT_LIMIT < sent {
-        return false;
-    }
-    if sent < lost {
-        return false;
-    }
-    if sent < replayed {
-        return false;
-    }
-    let made = sent + replayed;
-    if made < delivered {
-        return false;
-    }
-    let held = pending as u64;
-    if made != delivered + lost + held {
-        return false;
-    }
-    if seq != delivered + held {
-        return false;
-    }
-    delayed <= seq
-}
-
-// The records: each good, in order, none numbered twice, and zeros behind them.
-fn records_good(w: &[u64; queue::WORDS], n: usize, seq: u64) -> bool
-    requires { ⌜ (length (now w) ≡ 1024) × (n ≤ 128) ⌝ }
-    ensures { λ b. ⌜ b ≡ recordsFormed (now (w .entry)) n seq ⌝ }
-{
-    if !queue::in_order(w, n, seq) {
-        return false;
-    }
-    if !queue::none_twice(w, n) {
-        return false;
-    }
-    queue::zero_from(w, n * queue::RECORD_SIZE)
-}
-
 // Whether a network is well formed: its words lent, the rest of it by value.
 pub fn formed(w: &[u64; queue::WORDS], head: Head) -> bool
     requires { ⌜ length (now w) ≡ 1024 ⌝ }
@@ -172,7 +107,7 @@ pub fn formed(w: &[u64; queue::WORDS], head: Head) -> bool
     let Settled::Done = options.validate() else {
         return false;
     };
-    if !counts_good(
+    if !mail::counts_good(
         head.pending,
         head.seq,
         head.sent,
@@ -183,10 +118,10 @@ pub fn formed(w: &[u64; queue::WORDS], head: Head) -> bool
     ) {
         return false;
     }
-    records_good(w, head.pending, head.seq)
+    mail::records_good(w, head.pending, head.seq)
 }
 
-// ---- The queueing of a fate
+// ---- The calls on lent records
 
 // What a send that was decided so answers.
 fn told_by(decision: Decision) -> SendAnswer
@@ -226,54 +161,6 @@ fn told_by(decision: Decision) -> SendAnswer
         },
     }
 }
-
-// The copy of a letter that is due at a tick, under a number.
-fn copy_of(letter: Letter, due: u64, seq: u64) -> queue::Record
-    ensures { λ r. ⌜ plainRecord r ≡ copyAt (plainLetter letter) due seq ⌝ }
-{
-    queue::Record {
-        due: due,
-        seq: seq,
-        sent_at: letter.now,
-        sort: letter.sort,
-        origin: letter.origin,
-        to: letter.to,
-        kind: letter.kind,
-        handle: letter.handle,
-    }
-}
-
-// The copies of a fate put among the first n records, numbered from seq + 1: the replayed copy before the original.
-fn queue_copies(w: &mut [u64; queue::WORDS], n: usize, seq: u64, letter: Letter, decision: Decision)
-    requires { ⌜ (length (now w) ≡ 1024) × (n + length (dues (decisionOf decision .fate)) ≤ 128) × (seq + 2 < 2 ^ 64) ⌝ }
-    ensures { λ _. ⌜ now (w .exit) ≡ insertedAll (now (w .entry)) n (copies (plainLetter letter) seq (dues (decisionOf decision .fate))) ⌝ }
-{
-    match decision {
-        Decision::Refused(_) => {}
-        Decision::Lost { draws: _ } => {}
-        Decision::Once {
-            due,
-            late: _,
-            draws: _,
-            extras: _,
-        } => {
-            queue::insert_in(w, n, copy_of(letter, due, seq + 1));
-        }
-        Decision::Twice {
-            copy,
-            original,
-            copy_late: _,
-            original_late: _,
-            draws: _,
-            extras: _,
-        } => {
-            queue::insert_in(w, n, copy_of(letter, copy, seq + 1));
-            queue::insert_in(w, n + 1, copy_of(letter, original, seq + 2));
-        }
-    }
-}
-
-// ---- The calls on lent records
 
 // A send on a well-formed network.
 pub fn send_on(
@@ -332,7 +219,7 @@ pub fn send_on(
             answer: SendAnswer::Refused(Refusal::Full),
         };
     }
-    let letter = Letter {
+    let letter = mail::Letter {
         now: now,
         sort: sort,
         origin: origin,
@@ -341,7 +228,7 @@ pub fn send_on(
         handle: handle,
     };
     let seq = head.seq;
-    queue_copies(w, n, seq, letter, decision);
+    mail::queue_copies(w, n, seq, letter, decision);
     let mut next = head;
     next.pending = n + copies;
     next.seq = seq + copies as u64;
@@ -471,7 +358,7 @@ impl Network {
     // Messages that can be in flight, and messages that can be sent.
     pub const CAPACITY: usize = queue::CAPACITY;
 
-    pub const SENT_LIMIT: u64 = 0x4000_0000_0000_0000;
+    pub const SENT_LIMIT: u64 = mail::SENT_LIMIT;
 
     // The network without its records.
     pub fn head(self) -> Head

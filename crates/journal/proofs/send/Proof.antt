@@ -12,7 +12,7 @@ use Rattle.network.specs.Answers.{Sending, sentOf, sending}
 use Rattle.network.specs.Forms.{plainOf, letterOf}
 use Rattle.network.specs.Calls.{callAnswer}
 use Rattle.network.proofs.Calling.{answer-of}
-use Rattle.journal.proofs.Words.{roomy}
+use Rattle.ledger.proofs.Words.{roomy}
 use Rattle.journal.proofs.Journaled.{refused-plain, refused-then, accepted}
 use borrow.Author.Needs.{needs}
 use Rattle.journal.proofs.send.Statement.{statement}

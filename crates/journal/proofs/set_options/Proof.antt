@@ -13,7 +13,7 @@ use Rattle.network.specs.Forms.{plainOf}
 use Rattle.network.specs.Calls.{callAnswer}
 use Rattle.network.proofs.Maps.{plain-formed}
 use Rattle.network.proofs.Laws.{was-formed}
-use Rattle.journal.proofs.Words.{roomy}
+use Rattle.ledger.proofs.Words.{roomy}
 use Rattle.journal.proofs.Journaled.{refused-plain, refused-then, accepted}
 use borrow.Author.Needs.{needs}
 use Rattle.journal.proofs.set_options.Statement.{statement}

@@ -15,7 +15,7 @@ use Rattle.network.specs.Answers.{countedOf, counting}
 use Rattle.network.specs.Forms.{plainOf}
 use Rattle.network.specs.Calls.{callAnswer, written}
 use Rattle.network.proofs.Calling.{stays}
-use Rattle.journal.proofs.Words.{roomy}
+use Rattle.ledger.proofs.Words.{roomy}
 use Rattle.journal.proofs.Journaled.{refused-first, refused-then, accepted}
 use Rattle.journal.proofs.Takes.{over-front, told-done, told-refused, own-refused, own-small, lent-short, lent-well, same-network, record-size, length-last, taken-front, the-record}
 use borrow.Author.Needs.{needs}

@@ -1,13 +1,13 @@
--- `journal::room_for` meets its contract: the header, then the room behind it. Assumes nothing.
+-- `ledger::room_for` meets its contract: the header, then the room behind it. Assumes nothing.
 use mathlib.Core.Path.{_≡_, sym, _∙_}
 use mathlib.Core.Bool.{true}
 use native.Mathlib.Omega.{arith}
 use borrow.Author.Tests.{not-true, not-false}
 use Rattle.nights.specs.Journal.{goodHeader}
-use Rattle.journal.proofs.Words.{Header, good-header, bad-words, no-room, has-room}
+use Rattle.ledger.proofs.Words.{Header, good-header, bad-words, no-room, has-room}
 use borrow.Author.Needs.{needs}
-use Rattle.journal.proofs.room_for.Statement.{statement}
-use Rattle.journal.proofs.room_for.Tie as tie
+use Rattle.ledger.proofs.room_for.Statement.{statement}
+use Rattle.ledger.proofs.room_for.Tie as tie
 
 good : (c : tie.Else1) → goodHeader (c .before .before .before .args .journal .now) ≡ true
 good c = sym (c .before .header-good .ensures) ∙ not-false _ (c .if1 .left)

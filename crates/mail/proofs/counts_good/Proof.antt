@@ -1,9 +1,9 @@
--- `network::counts_good` meets its contract: each early answer is a clause that fails, and no sum wraps. Assumes nothing.
+-- `mail::counts_good` meets its contract: each early answer is a clause that fails, and no sum wraps. Assumes nothing.
 use native.Mathlib.Omega.{arith}
-use Rattle.network.proofs.WholeForm.{too-many, too-many-sent, too-many-lost, too-many-replayed, uneven, misnumbered, delays-told}
+use Rattle.mail.proofs.Clauses.{too-many, too-many-sent, too-many-lost, too-many-replayed, uneven, misnumbered, delays-told}
 use borrow.Author.Needs.{needs}
-use Rattle.network.proofs.counts_good.Statement.{statement}
-use Rattle.network.proofs.counts_good.Tie as tie
+use Rattle.mail.proofs.counts_good.Statement.{statement}
+use Rattle.mail.proofs.counts_good.Tie as tie
 
 returns : tie.Need-returns
 returns c = too-many (c .before .args .pending) (c .before .args .seq) (c .before .args .sent) (c .before .args .delivered) (c .before .args .lost) (c .before .args .replayed) (c .before .args .delayed) (c .if1 .taken)

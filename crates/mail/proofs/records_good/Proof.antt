@@ -1,10 +1,10 @@
--- `network::records_good` meets its contract: the two walks tell what the plain form asks of its records. Assumes nothing.
+-- `mail::records_good` meets its contract: the two walks tell what the plain form asks of its records. Assumes nothing.
 use borrow.Author.Tests.{not-true, not-false}
 use mathlib.Core.Path.{sym, _∙_}
-use Rattle.network.proofs.WholeForm.{order-fails, numbers-fail, records-told}
+use Rattle.mail.proofs.Clauses.{order-fails, numbers-fail, records-told}
 use borrow.Author.Needs.{needs}
-use Rattle.network.proofs.records_good.Statement.{statement}
-use Rattle.network.proofs.records_good.Tie as tie
+use Rattle.mail.proofs.records_good.Statement.{statement}
+use Rattle.mail.proofs.records_good.Tie as tie
 
 in-order-requires : tie.Need-in-order-requires
 in-order-requires c κs = search needs

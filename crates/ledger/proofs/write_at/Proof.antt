@@ -1,13 +1,13 @@
--- `journal::write_at` meets its contract: the words written so far stand over the others. Assumes nothing.
+-- `ledger::write_at` meets its contract: the words written so far stand over the others. Assumes nothing.
 use Prim.Native.Nat.{_-_, _≤_}
 use mathlib.Core.Path.{_≡_, refl, _∙_}
 use native.Mathlib.Omega.{arith}
 use native.Mathlib.Numerals.{add-one}
 use lib.ListN.{length, length-set}
 use lib.Seq.{paste, paste-zero, paste-suc}
-use Rattle.journal.proofs.Words.{pasted}
-use Rattle.journal.proofs.write_at.Statement.{statement}
-use Rattle.journal.proofs.write_at.Tie as tie
+use Rattle.ledger.proofs.Words.{pasted}
+use Rattle.ledger.proofs.write_at.Statement.{statement}
+use Rattle.ledger.proofs.write_at.Tie as tie
 
 abbrev Inv-loop : tie.InvT-loop
 Inv-loop words₀ at what i₀ words i = (i ≤ length what) × (length words ≡ length words₀) × (words ≡ paste words₀ at what i)

@@ -1,4 +1,4 @@
--- `network::queue_copies` meets its contract: one copy after the other, each under the next number. Assumes nothing.
+-- `mail::queue_copies` meets its contract: one copy after the other, each under the next number. Assumes nothing.
 use Prim.Native.Nat.{_+_}
 use mathlib.Core.Path.{_≡_, sym, ap, _∙_}
 use native.Mathlib.Omega.{arith}
@@ -9,10 +9,10 @@ use Rattle.queue.specs.Places.{insertedWords, insertedAll}
 use Rattle.queue.proofs.Packing.{length-inserted}
 use Rattle.fates.specs.declared.Decision.{Decision}
 use Rattle.fates.specs.Answers.{decisionOf}
-use Rattle.network.specs.Forms.{plainLetter}
+use Rattle.mail.specs.Letters.{plainLetter}
 use borrow.Author.Needs.{needs}
-use Rattle.network.proofs.queue_copies.Statement.{statement}
-use Rattle.network.proofs.queue_copies.Tie as tie
+use Rattle.mail.proofs.queue_copies.Statement.{statement}
+use Rattle.mail.proofs.queue_copies.Tie as tie
 
 enum-told : tie.Need-enum-told
 enum-told c = search needs

@@ -1,14 +1,14 @@
--- `journal::append` meets its contract: the record stands behind the others, and the header counts it. Assumes nothing.
+-- `ledger::append` meets its contract: the record stands behind the others, and the header counts it. Assumes nothing.
 use Prim.Native.Nat.{ℕ, _≤_}
 use mathlib.Core.Path.{_≡_, ap, _∙_}
 use mathlib.Core.List.{List}
 use native.Mathlib.Omega.{arith}
 use lib.ListN.{length, getD, length-set}
 use Rattle.nights.specs.Journal.{held, used, overwrite}
-use Rattle.journal.proofs.Words.{Header, good-header, held-stays, length-over, logged-by}
+use Rattle.ledger.proofs.Words.{Header, good-header, held-stays, length-over, logged-by}
 use borrow.Author.Needs.{needs}
-use Rattle.journal.proofs.append.Statement.{statement}
-use Rattle.journal.proofs.append.Tie as tie
+use Rattle.ledger.proofs.append.Statement.{statement}
+use Rattle.ledger.proofs.append.Tie as tie
 
 header : (c : tie.Start) → Header (c .args .journal .now)
 header c = good-header (c .args .journal .now) (c .pre .0)

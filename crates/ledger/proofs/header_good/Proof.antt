@@ -1,9 +1,9 @@
--- `journal::header_good` meets its contract: each clause in turn. Assumes nothing.
+-- `ledger::header_good` meets its contract: each clause in turn. Assumes nothing.
 use native.Mathlib.Omega.{arith}
-use Rattle.journal.proofs.Words.{too-short, used-low, used-high, held-told}
+use Rattle.ledger.proofs.Words.{too-short, used-low, used-high, held-told}
 use borrow.Author.Needs.{needs}
-use Rattle.journal.proofs.header_good.Statement.{statement}
-use Rattle.journal.proofs.header_good.Tie as tie
+use Rattle.ledger.proofs.header_good.Statement.{statement}
+use Rattle.ledger.proofs.header_good.Tie as tie
 
 returns : tie.Need-returns
 returns c = too-short (c .before .args .journal .now) (c .if1 .taken)

@@ -1,11 +1,11 @@
--- `journal::options_record` meets its contract: good options have good probabilities. Assumes nothing.
+-- `ledger::options_record` meets its contract: good options have good probabilities. Assumes nothing.
 use mathlib.Core.Path.{_≡_}
 use mathlib.Core.Bool.{Bool, true}
 use lib.Dec.{T}
 use Rattle.fates.proofs.OptionForms.{good-chances}
 use borrow.Author.Needs.{needs}
-use Rattle.journal.proofs.options_record.Statement.{statement}
-use Rattle.journal.proofs.options_record.Tie as tie
+use Rattle.ledger.proofs.options_record.Statement.{statement}
+use Rattle.ledger.proofs.options_record.Tie as tie
 
 passes : {b : Bool} → b ≡ true → T b
 passes {b} e = rw e tt

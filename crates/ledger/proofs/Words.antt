@@ -9,12 +9,9 @@ use borrow.Author.Tests.{le-leb, lt-leb, leb-true, leb-false}
 use lib.Dec.{leb}
 use lib.ListN.{length, take, drop, getD, set, length-append, length-take, length-drop, List·getD-append}
 use lib.Seq.{getD-take, take-length, paste}
-use Rattle.nights.specs.Net.{fresh}
-use Rattle.nights.specs.Journal.{done, refused, held, used, overwrite, logged, goodHeader, verdict, journalTests, doMark, step}
+use Rattle.nights.specs.Journal.{done, refused, held, used, overwrite, logged, goodHeader, verdict, journalTests}
 use Rattle.nights.proofs.Kept.{both}
-use Rattle.fates.specs.Options.{perfectOptions}
 use Rattle.fates.proofs.Failing.{first, second}
-use Rattle.journal.specs.Calls.{marked}
 
 -- half of it, rounded down
 halved : (a b : ℕ) → leb a (b / 2) ≡ leb (2 * a) b
@@ -99,16 +96,6 @@ pub headed : (w : List ℕ) (a b : ℕ) → 2 ≤ length w → set (set w 0 a) 1
 headed [] a b h = absurd (omega arith)
 headed (x ∷ []) a b h = absurd (omega arith)
 headed (x ∷ y ∷ w) a b h = refl
-
--- a mark
-module _ (w : List ℕ) where
-  pub mark-short : length w < 2 → marked w ≡ record { state = record { net = fresh perfectOptions; words = w }; answer = refused 32 }
-  unfolding step doMark
-  mark-short h = rw (lt-leb 2 (length w) h)
-
-  pub mark-long : 2 ≤ length w → marked w ≡ record { state = record { net = fresh perfectOptions; words = 0 ∷ 2 ∷ drop 2 w }; answer = done }
-  unfolding step doMark
-  mark-long h = rw (le-leb 2 (length w) h)
 
 -- a list written over the words, once all of it is
 pub pasted : (w r : List ℕ) (at : ℕ) → paste w at r (length r) ≡ overwrite w at r
