@@ -16,9 +16,9 @@ use Rattle.nights.specs.Net.{Options, Fate, refuse, lose, once, twice, Letter, 
 use Rattle.nights.specs.Draws.{Decided, refusing, isFaulted, extrasFor, dueAt, isTick, isLate, alone, both, afterReplay, afterLoss, decided, fateOf}
 use Rattle.nights.specs.Journal.{Answer, done, refused, Test, verdict, refusal, sendTests, tests}
 use Rattle.network.specs.declared.Network.{Network}
-use Rattle.network.specs.declared.Refusal.{Refusal}
-use Rattle.network.specs.declared.Refusal.the-variants.{BadLoss, BadReplay, MinOverMean, IllFormed, BadKindOrSort, SentLimit, ShortDraws, ShortExtras, LateTick, Full, ShortOutput, BadJournal, NoJournalRoom, TooFarBack}
-use Rattle.network.specs.Answers.{number}
+use Rattle.fates.specs.declared.Refusal.{Refusal}
+use Rattle.fates.specs.declared.Refusal.the-variants.{BadLoss, BadReplay, MinOverMean, IllFormed, BadKindOrSort, SentLimit, ShortDraws, ShortExtras, LateTick, Full, ShortOutput, BadJournal, NoJournalRoom, TooFarBack}
+use Rattle.fates.specs.Answers.{number}
 use Rattle.network.specs.Forms.{plainOf}
 use Rattle.network.specs.Calls.{formTest, callAnswer}
 

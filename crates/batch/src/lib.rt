@@ -14,7 +14,7 @@ ghost use Rattle.nights.specs.Net.{send};
 ghost use Rattle.nights.specs.Draws.{decided};
 ghost use Rattle.network.specs.Answers.{sentOf, sending};
 ghost use Rattle.network.specs.Forms.{isFormed, joined};
-ghost use Rattle.network.specs.Options.{plainOptions};
+ghost use Rattle.fates.specs.Options.{plainOptions};
 ghost use Rattle.network.specs.Calls.{callAnswer, callNetwork};
 ghost use Rattle.batch.specs.Ticks.{letterAt, numberAt, sendsFrom, ticked, ranOf};
 

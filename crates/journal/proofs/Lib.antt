@@ -1,5 +1,5 @@
 -- Laws that belong to no one function, and the theorem.
-pub mod Words
+pub mod Marks
 pub mod Journaled
 pub mod Takes
 pub mod Rewinds

@@ -9,7 +9,7 @@ use Rattle.nights.specs.Journal.{done, refused, rewind, held, used, header, goo
 use Rattle.network.specs.declared.Network.{Network}
 use Rattle.network.specs.Forms.{plainOf, isFormed}
 use Rattle.network.specs.Calls.{settling}
-use Rattle.network.proofs.OptionForms.{Held}
+use Rattle.fates.proofs.OptionForms.{Held}
 use Rattle.network.proofs.Maps.{plain-formed, struct-of-plain}
 use Rattle.undo.specs.declared.Undone.{Undone}
 use Rattle.undo.specs.Undone.{undoneOf}

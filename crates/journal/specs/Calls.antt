@@ -2,12 +2,12 @@
 -- step whose runs nights' theorem speaks of. A refusal hands back the very struct. Assumes nothing.
 use Prim.Native.Nat.{ℕ}
 use mathlib.Core.Bool.{cond}
-use mathlib.Core.List.{List, [], _∷_}
-use Rattle.nights.specs.Net.{Options, Network as Plain, send, take, choose, fresh, bit}
+use mathlib.Core.List.{List}
+use Rattle.nights.specs.Net.{Options, Network as Plain, send, take, choose, fresh}
 use Rattle.nights.specs.Draws.{fateOf}
 use Rattle.nights.specs.Journal.{Answer, refused, Call, plain, mark, State, Step, step}
 use Rattle.network.specs.declared.Network.{Network}
-use Rattle.network.specs.Options.{perfectOptions}
+use Rattle.fates.specs.Options.{perfectOptions}
 use Rattle.network.specs.Forms.{plainOf, isFormed, letterOf}
 use Rattle.network.specs.Calls.{settling}
 
@@ -48,9 +48,3 @@ markAnswer w = marked w .answer
 
 abbrev pub markWords : List ℕ → List ℕ
 markWords w = marked w .state .words
-
--- INSIDE
-
--- the words of an options record
-abbrev pub optionsRecord : Options → List ℕ
-optionsRecord o = o .loss ∷ o .replay ∷ o .least ∷ o .mean ∷ bit (o .faulted) ∷ 3 ∷ 7 ∷ []

@@ -1,90 +1,30 @@
 // The journal of a network's calls, in words that the host lends: word 0 says how many calls it holds, word 1 how many words are
 // used, and behind them stands a record for each call, enough to undo it. A journaled call is the plain call with its record; a
 // rewind goes back over the last k; a mark forgets them, so that no rewind goes past it. Any words may be lent.
+use fates::NetworkOptions;
+use fates::Refusal;
+use fates::Settled;
 use network::Counted;
 use network::Network;
-use network::NetworkOptions;
 use network::Next;
-use network::Refusal;
 use network::SendAnswer;
 use network::Sent;
-use network::Settled;
 use network::Taken;
 ghost use mathlib.Core.Path.{_≡_};
-ghost use mathlib.Core.Bool.{true};
-ghost use mathlib.Core.List.{[]};
-ghost use Prim.Native.Nat.{_+_, _≤_};
 ghost use lib.ListN.{length};
 ghost use Rattle.nights.specs.Record.{wordsOf};
-ghost use Rattle.nights.specs.Net.{keep, isDue, bit, goodOptions};
+ghost use Rattle.nights.specs.Net.{keep, isDue};
 ghost use Rattle.nights.specs.Draws.{decided};
-ghost use Rattle.nights.specs.Journal.{used, overwrite, logged, goodHeader, verdict, journalTests, mark, rewind, done, refused};
-ghost use Rattle.network.specs.Answers.{number, settledOf, countedOf, sentOf, counting, sending};
+ghost use Rattle.nights.specs.Journal.{mark, rewind, done, refused};
+ghost use Rattle.fates.specs.Answers.{number, settledOf};
+ghost use Rattle.network.specs.Answers.{countedOf, sentOf, counting, sending};
 ghost use Rattle.network.specs.Forms.{plainOf};
 ghost use Rattle.network.specs.Calls.{written};
-ghost use Rattle.network.specs.Options.{plainOptions};
-ghost use Rattle.journal.specs.Calls.{sends, takes, chooses, answerOf, wordsAfter, networkAfter, markAnswer, markWords, optionsRecord};
+ghost use Rattle.fates.specs.Options.{plainOptions};
+ghost use Rattle.journal.specs.Calls.{sends, takes, chooses, answerOf, wordsAfter, networkAfter, markAnswer, markWords};
 
 // The words of a take's own output, beside which its record's sort and length fit.
 const TAKE_ROOM: usize = 1026;
-
-// ---- The words
-
-// Whether words 0 and 1 can head a journal of so many words: over whole numbers, twice the calls are at most the words used by them.
-fn header_good(journal: &[u64]) -> bool
-    ensures { λ b. ⌜ b ≡ goodHeader (now (journal .entry)) ⌝ }
-{
-    if journal.len() < undo::HEADER {
-        return false;
-    }
-    let used = journal[1];
-    if used < undo::HEADER as u64 {
-        return false;
-    }
-    if (journal.len() as u64) < used {
-        return false;
-    }
-    journal[0] <= (used - undo::HEADER as u64) / 2
-}
-
-// What a journal answers to a record of so many words.
-fn room_for(journal: &[u64], size: usize) -> Settled
-    ensures { λ r. ⌜ settledOf r ≡ verdict (journalTests (now (journal .entry)) size) ⌝ }
-{
-    if !header_good(journal) {
-        return Settled::Refused(Refusal::BadJournal);
-    }
-    if journal.len() - (journal[1] as usize) < size {
-        return Settled::Refused(Refusal::NoJournalRoom);
-    }
-    Settled::Done
-}
-
-// Words written over those that stand from a place on.
-fn write_at(words: &mut [u64], at: usize, what: &[u64])
-    requires { ⌜ at + length (now what) ≤ length (now words) ⌝ }
-    ensures { λ _. ⌜ now (words .exit) ≡ overwrite (now (words .entry)) at (now (what .entry)) ⌝ }
-{
-    let mut i: usize = 0;
-    while i < what.len() {
-        let x = what[i];
-        words[at + i] = x;
-        i += 1;
-    }
-}
-
-// A record written behind the last one, and the header that counts it.
-fn append(journal: &mut [u64], what: &[u64])
-    requires { ⌜ (goodHeader (now journal) ≡ true) × (used (now journal) + length (now what) ≤ length (now journal)) ⌝ }
-    ensures { λ _. ⌜ now (journal .exit) ≡ logged (now (journal .entry)) (now (what .entry)) ⌝ }
-{
-    let used = journal[1] as usize;
-    write_at(journal, used, what);
-    journal[0] = journal[0] + 1;
-    journal[1] = (used + what.len()) as u64;
-}
-
-// ---- The calls
 
 // Forgets the calls held, so that none of them can be undone.
 pub fn mark(journal: &mut [u64]) -> Settled
@@ -110,38 +50,16 @@ pub fn set_options(network: Network, options: NetworkOptions, journal: &mut [u64
     let Settled::Done = answer else {
         return next;
     };
-    let room = room_for(journal, undo::OPTIONS_WORDS);
+    let room = ledger::room_for(journal, undo::OPTIONS_WORDS);
     let Settled::Done = room else {
         return Next {
             network: network,
             answer: room,
         };
     };
-    let record = options_record(network.options);
-    append(journal, &record[..]);
+    let record = ledger::options_record(network.options);
+    ledger::append(journal, &record[..]);
     next
-}
-
-// The record of a change of options, from the good options before it.
-fn options_record(old: NetworkOptions) -> [u64; undo::OPTIONS_WORDS]
-    requires { ⌜ goodOptions (plainOptions old) ≡ true ⌝ }
-    ensures { λ r. ⌜ r ≡ optionsRecord (plainOptions old) ⌝ }
-{
-    [
-        chance::word_of(old.packet_loss_probability),
-        chance::word_of(old.packet_replay_probability),
-        old.one_way_delay_min,
-        old.one_way_delay_mean,
-        flag_word(old.fault_client_messages),
-        undo::OPTIONS,
-        undo::OPTIONS_WORDS as u64,
-    ]
-}
-
-fn flag_word(flag: bool) -> u64
-    ensures { λ r. ⌜ r ≡ bit flag ⌝ }
-{
-    if flag { 1 } else { 0 }
 }
 
 // A send.
@@ -172,7 +90,7 @@ pub fn send(
     else {
         return sent;
     };
-    let Settled::Refused(refusal) = room_for(journal, undo::SEND_WORDS) else {
+    let Settled::Refused(refusal) = ledger::room_for(journal, undo::SEND_WORDS) else {
         let record = [
             network.seq,
             network.lost,
@@ -181,7 +99,7 @@ pub fn send(
             undo::SEND,
             undo::SEND_WORDS as u64,
         ];
-        append(journal, &record[..]);
+        ledger::append(journal, &record[..]);
         return sent;
     };
     Sent {
@@ -208,11 +126,11 @@ pub fn take_due(network: Network, now: u64, out: &mut [u64], journal: &mut [u64]
     if out.len() < size {
         return refused_take(network, Refusal::ShortOutput);
     }
-    let Settled::Refused(refusal) = room_for(journal, size + undo::TAKE_WORDS) else {
-        write_at(out, 0, &record[..size]);
+    let Settled::Refused(refusal) = ledger::room_for(journal, size + undo::TAKE_WORDS) else {
+        ledger::write_at(out, 0, &record[..size]);
         record[size] = undo::TAKE;
         record[size + 1] = (size + undo::TAKE_WORDS) as u64;
-        append(journal, &record[..size + undo::TAKE_WORDS]);
+        ledger::append(journal, &record[..size + undo::TAKE_WORDS]);
         return taken;
     };
     refused_take(network, refusal)
@@ -236,7 +154,7 @@ pub fn rewind(network: Network, k: u64, journal: &mut [u64]) -> Next
     let Counted::Records(_) = network.pending() else {
         return refused(network, Refusal::IllFormed);
     };
-    if !header_good(journal) {
+    if !ledger::header_good(journal) {
         return refused(network, Refusal::BadJournal);
     }
     let held = journal[0];

@@ -16,14 +16,14 @@ use Rattle.plants.specs.declared.refusal.Refusal.{Refusal}
 use Rattle.plants.specs.declared.refusal.Refusal.the-variants.{CountFull}
 use Rattle.plants.specs.declared.refusal.Test.the-variants.{Passed, Failed}
 use Rattle.plants.proofs.Testing.{both}
-use Rattle.liveness.specs.Shuffle.{picksWithin}
-use Rattle.liveness.specs.Core.{quorum, sizePicks, picksUsed, firstPicks, secondPicks, coreSize, picksInRange, idsFrom, those, tally, lineUp, coreOf}
+use Rattle.lineup.specs.Shuffle.{picksWithin}
+use Rattle.lineup.specs.Core.{quorum, sizePicks, picksUsed, firstPicks, secondPicks, coreSize, picksInRange, idsFrom, those, tally, lineUp, coreOf}
 use Rattle.liveness.specs.Choice.{member, inCore, isSet, upAfter, settled, padded, lentTested, choiceTested, chosen}
 use Rattle.liveness.specs.declared.Chosen.{Chosen}
 use Rattle.liveness.specs.declared.Choice.the-variants.{Made, Refused}
-use Rattle.liveness.proofs.Tallies.{Permutation, tally-parts}
-use Rattle.liveness.proofs.Ids.{ids-below, ids-once}
-use Rattle.liveness.proofs.Lining.{line-permutes, line-length}
+use Rattle.lineup.proofs.Tallies.{Permutation, tally-parts}
+use Rattle.lineup.proofs.Ids.{ids-below, ids-once}
+use Rattle.lineup.proofs.Lining.{line-permutes, line-length}
 use Rattle.liveness.proofs.Marking.{flag-of}
 use Rattle.liveness.proofs.Sorting.{Once, sort-permutes, same-members, same-flags, those-same, sorted-is}
 use Rattle.liveness.proofs.Ranges.{rest}

@@ -21,13 +21,13 @@ use Rattle.plants.specs.declared.refusal.Test.{Test}
 use Rattle.plants.specs.declared.refusal.Test.the-variants.{Passed, Failed}
 use Rattle.plants.proofs.Testing.{both-pass, holds, count-holds, good, by-counts}
 use Rattle.plants.proofs.Laws.{none-past}
-use Rattle.liveness.specs.Shuffle.{shuffled}
-use Rattle.liveness.specs.Core.{quorum, sizePicks, picksUsed, firstPicks, secondPicks, coreSize, idsFrom, those, tally, isHealthy, candidates, filler, lineUp, coreOf}
+use Rattle.lineup.specs.Shuffle.{shuffled}
+use Rattle.lineup.specs.Core.{quorum, sizePicks, picksUsed, firstPicks, secondPicks, coreSize, idsFrom, those, tally, isHealthy, candidates, filler, lineUp, coreOf}
 use Rattle.liveness.specs.Choice.{member, inCore, settled, lentTested, choiceTested, chosenIf, chosen}
 use Rattle.liveness.specs.declared.Choice.the-variants.{Refused}
-use Rattle.liveness.proofs.Tallies.{none-counted, tally-cons, all-below, same-length, those-pass, front-passes, tally-append}
+use Rattle.lineup.proofs.Tallies.{none-counted, tally-cons, all-below, same-length, those-pass, front-passes, tally-append}
 use Rattle.liveness.proofs.Marking.{flag-of}
-use Rattle.liveness.proofs.Lining.{dealt-length, healthy-enough, filler-length}
+use Rattle.lineup.proofs.Lining.{dealt-length, healthy-enough, filler-length}
 use Rattle.liveness.proofs.Lending.{Ready, lent-passed}
 use Rattle.liveness.proofs.Choosing.{front, in-range, front-size, front-below, core-permutes, core-is}
 

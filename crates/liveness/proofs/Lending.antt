@@ -13,8 +13,8 @@ use Rattle.plants.specs.declared.refusal.Refusal.{Refusal}
 use Rattle.plants.specs.declared.refusal.Refusal.the-variants.{BadFlags, TooFewHealthy, TooFewPicks, PickOutOfRange}
 use Rattle.plants.specs.declared.refusal.Test.the-variants.{Passed, Failed}
 use Rattle.plants.proofs.Testing.{both, both-pass, holds, bounds}
-use Rattle.liveness.specs.Core.{quorum, picksUsed, picksInRange}
-use Rattle.liveness.specs.Choice.{flagsFit, healthyCount, lentTested}
+use Rattle.lineup.specs.Core.{quorum, picksUsed, picksInRange, flagsFit, healthyCount}
+use Rattle.liveness.specs.Choice.{lentTested}
 
 module _ (s : Plants) (flags picks : List ℕ) (full : Bool) where
   pub bad-state : (r : Refusal) → tested s ≡ Failed r → Failed r ≡ lentTested s flags picks full

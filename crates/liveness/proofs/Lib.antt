@@ -1,10 +1,6 @@
 -- Laws that belong to no one function.
-pub mod Tallies
-pub mod Ids
-pub mod Shuffling
-pub mod Walks
+pub mod RisenFlags
 pub mod Marking
-pub mod Lining
 pub mod Ranges
 pub mod Lending
 pub mod Sorting

@@ -7,8 +7,8 @@ use native.Mathlib.Omega.{arith}
 use borrow.Author.Tests.{le-leb, lt-leb}
 use lib.ListN.{length, take, drop, length-drop}
 use lib.Seq.{take-all}
-use Rattle.liveness.specs.Shuffle.{picksWithin}
-use Rattle.liveness.specs.Core.{quorum, sizePicks, coreSize, picksInRange}
+use Rattle.lineup.specs.Shuffle.{picksWithin}
+use Rattle.lineup.specs.Core.{quorum, sizePicks, coreSize, picksInRange}
 
 -- all that stands behind the first k
 pub rest : (l : List ℕ) (k : ℕ) → take (length l - k) (drop k l) ≡ drop k l

@@ -8,9 +8,9 @@ use native.Mathlib.Decide.{ℕ-discrete}
 use borrow.Author.Tests.{lt-ltb, le-leb, lt-leb, leb-false, eq-eqb, ne-eqb}
 use lib.Dec.{leb, ltb, eqb}
 use Rattle.plants.specs.Faults.{counted}
-use Rattle.liveness.specs.Core.{idsFrom, those, tally, inserted, sorted}
+use Rattle.lineup.specs.Core.{idsFrom, those, tally, inserted, sorted}
 use Rattle.liveness.specs.Choice.{member, inCore}
-use Rattle.liveness.proofs.Tallies.{Permutation, tally-cons, none-counted}
+use Rattle.lineup.proofs.Tallies.{Permutation, tally-cons, none-counted}
 
 -- ---- sorting permutes
 module _ (test : ℕ → Bool) where

@@ -5,9 +5,9 @@ use mathlib.Core.Path.{_≡_, refl}
 use Prim.Native.Nat.{ℕ}
 use lib.ListN.{replicate}
 use Rattle.plants.specs.State.{fresh, tested, plantCount, wellFormed, noneSet, countsFit}
-use Rattle.liveness.specs.Shuffle.{shuffledFrom, picksWithin}
-use Rattle.liveness.specs.Core.{picksInRange, idsFrom, those, lineUp, inserted, sorted, coreOf}
-use Rattle.liveness.specs.Choice.{member, inCore, risen, flagsFit, healthyCount, lentTested, choiceTested, chosen}
+use Rattle.lineup.specs.Shuffle.{shuffledFrom, picksWithin}
+use Rattle.lineup.specs.Core.{picksInRange, idsFrom, those, lineUp, inserted, sorted, coreOf, flagsFit, healthyCount}
+use Rattle.liveness.specs.Choice.{member, inCore, risen, lentTested, choiceTested, chosen}
 use Rattle.liveness.specs.declared.Chosen.{Chosen}
 use Rattle.liveness.specs.declared.Choice.the-variants.{Made}
 

@@ -1,6 +1,6 @@
 -- The choice of the core with its refusals, and the plants after it (RULES, "Plants and core" and "Refusal numbers"). Partitions clear; core
 -- plants that were down come up, a restart, and others that were up go down, a crash; stable-until stays. Assumes nothing.
-use mathlib.Core.Bool.{Bool, true, false, not, _&&_, _||_}
+use mathlib.Core.Bool.{Bool, false, not, _&&_, _||_}
 use mathlib.Core.List.{List, [], _∷_, _++_}
 use Prim.Native.Nat.{ℕ, zero, suc, _+_, _-_}
 use lib.Dec.{leb, eqb}
@@ -12,7 +12,7 @@ use Rattle.plants.specs.declared.Plants.{Plants}
 use Rattle.plants.specs.declared.refusal.Refusal.the-variants.{CountFull, BadFlags, TooFewPicks, PickOutOfRange, TooFewHealthy}
 use Rattle.plants.specs.declared.refusal.Test.{Test}
 use Rattle.plants.specs.declared.refusal.Test.the-variants.{Passed, Failed}
-use Rattle.liveness.specs.Core.{quorum, picksUsed, coreSize, picksInRange, idsFrom, tally, isHealthy, coreOf}
+use Rattle.lineup.specs.Core.{quorum, picksUsed, coreSize, picksInRange, flagsFit, healthyCount, coreOf}
 use Rattle.liveness.specs.declared.Chosen.{Chosen}
 use Rattle.liveness.specs.declared.Choice.the-variants.{Made, Refused}
 
@@ -55,15 +55,6 @@ settledBy s up =
 -- the plants after the choice
 abbrev pub settled : Plants → List ℕ → Plants
 settled s core = settledBy s (upAfter core)
-
--- no flag is over 1
-unfoldable pub flagsFit : List ℕ → Bool
-flagsFit [] = true
-flagsFit (f ∷ fs) = leb f 1 && flagsFit fs
-
--- how many of n plants are healthy
-unfoldable pub healthyCount : ℕ → List ℕ → ℕ
-healthyCount n flags = tally (isHealthy flags) (idsFrom 0 n)
 
 -- the tests before the core is chosen, 40, 42, 45, 48, 46 and 47, in this order
 unfoldable pub lentTested : Plants → List ℕ → List ℕ → Bool → Test

@@ -1,4 +1,2 @@
--- The definitions that the crate's contracts cite: shuffling by picks, the core of plants, and the choice of it with its refusals.
-pub mod Shuffle
-pub mod Core
+-- The definitions that the crate's contracts cite: the choice of the core with its refusals.
 pub mod Choice

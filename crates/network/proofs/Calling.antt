@@ -16,7 +16,7 @@ use Rattle.network.specs.declared.Network.{Network}
 use Rattle.network.specs.Answers.{counting, sending, fateAnswer}
 use Rattle.network.specs.Forms.{plainOf, structOf, isFormed}
 use Rattle.network.specs.Calls.{settling, callAnswer, callNetwork, formAnswer, listAnswer, written}
-use Rattle.network.proofs.WholeForm.{first, second}
+use Rattle.fates.proofs.Failing.{first, second}
 
 module _ (s : Network) where
   -- ---- counting and listing

@@ -3,11 +3,11 @@
 -- record; a change of options changes the options alone; and an answer is settled by what it tells. Assumes nothing.
 use mathlib.Core.Path.{_≡_, refl, sym, ap, _∙_}
 use mathlib.Core.List.{List, List·Memᴰ as Member}
-use mathlib.Core.Bool.{Bool, true, false, cond}
+use mathlib.Core.Bool.{Bool, true, false}
 use Prim.Native.Nat.{ℕ, _+_, _≤_, _<_}
 use native.Mathlib.Omega.{arith}
 use borrow.Author.Tests.{le-leb, lt-leb}
-use lib.Dec.{leb, eqb}
+use lib.Dec.{leb}
 use Rattle.nights.specs.Record.{Record}
 use Rattle.nights.specs.Net.{bit, Options, Network as Plain, dues, Letter, copies, Plain as Call, send, take, choose, keep, isDue, isLater, insertAll, setOptions, effect, wellFormed}
 use Rattle.nights.specs.Draws.{fateOf}
@@ -17,15 +17,13 @@ use Rattle.nights.proofs.Good.{copies-above}
 use Rattle.nights.proofs.Exact.{in-keep, of-keep}
 use Rattle.nights.proofs.Kept.{good, call-keeps}
 use Rattle.network.specs.declared.Network.{Network}
-use Rattle.network.specs.declared.Refusal.{Refusal}
-use Rattle.network.specs.declared.Refusal.the-variants.{BadLoss, BadReplay, MinOverMean, IllFormed, BadKindOrSort, SentLimit, ShortDraws, ShortExtras, LateTick, Full, ShortOutput, BadJournal, NoJournalRoom, TooFarBack}
-use Rattle.network.specs.declared.Settled.{Settled}
-use Rattle.network.specs.declared.Settled.the-variants.{Done, Refused}
 use Rattle.network.specs.declared.Counted.{Counted}
 use Rattle.network.specs.declared.Counted.the-variants.{Records, Refused as Uncounted}
 use Rattle.network.specs.declared.SendAnswer.{SendAnswer}
 use Rattle.network.specs.declared.SendAnswer.the-variants.{Accepted, Refused as Unsent}
-use Rattle.network.specs.Answers.{number, settledOf, Count, countedOf, Sending, sentOf}
+use Rattle.fates.specs.Answers.{number}
+use Rattle.fates.proofs.Numbers.{numbered-once}
+use Rattle.network.specs.Answers.{Count, countedOf, Sending, sentOf}
 use Rattle.network.specs.Forms.{plainOf, isFormed}
 use Rattle.network.specs.Calls.{callAnswer, callNetwork}
 use Rattle.network.proofs.Maps.{plain-formed, in-order, counts, plain-of-struct, struct-formed}
@@ -107,47 +105,6 @@ unfolding effect
 options-alone o s e = plain-effect (choose o) s e
 
 -- ---- an answer
-
--- no two refusals have one number
-refusalOf : ℕ → Refusal
-refusalOf k =
-    cond (eqb k 20) BadLoss
-    (cond (eqb k 21) BadReplay
-    (cond (eqb k 22) MinOverMean
-    (cond (eqb k 23) IllFormed
-    (cond (eqb k 24) BadKindOrSort
-    (cond (eqb k 25) SentLimit
-    (cond (eqb k 26) ShortDraws
-    (cond (eqb k 27) ShortExtras
-    (cond (eqb k 28) LateTick
-    (cond (eqb k 29) Full
-    (cond (eqb k 30) ShortOutput (cond (eqb k 31) BadJournal (cond (eqb k 32) NoJournalRoom TooFarBack))))))))))))
-
-back : (r : Refusal) → refusalOf (number r) ≡ r
-unfolding refusalOf
-back BadLoss = refl
-back BadReplay = refl
-back MinOverMean = refl
-back IllFormed = refl
-back BadKindOrSort = refl
-back SentLimit = refl
-back ShortDraws = refl
-back ShortExtras = refl
-back LateTick = refl
-back Full = refl
-back ShortOutput = refl
-back BadJournal = refl
-back NoJournalRoom = refl
-back TooFarBack = refl
-
-pub numbered-once : (r t : Refusal) → number r ≡ number t → r ≡ t
-numbered-once r t e = sym (back r) ∙ (ap refusalOf e ∙ back t)
-
-pub settled-once : (a b : Settled) → settledOf a ≡ settledOf b → a ≡ b
-settled-once Done Done e = refl
-settled-once Done (Refused r) e = let z : _≡_ {A = ℕ} 0 1 = cc in absurd (omega arith)
-settled-once (Refused r) Done e = let z : _≡_ {A = ℕ} 0 1 = cc in absurd (omega arith)
-settled-once (Refused r) (Refused t) e = let z : number r ≡ number t = cc in ap Refused (numbered-once r t z)
 
 pub counted-once : (a b : Counted) → countedOf a ≡ countedOf b → a ≡ b
 counted-once (Records n) (Records k) e = ap Records (ap (λ (x : Count). x .records) e)

@@ -21,11 +21,11 @@ use Rattle.queue.specs.Places.{dueCount, leftWords, goneWords, insertedAll}
 use Rattle.queue.proofs.Inserting.{length-recs}
 use Rattle.queue.proofs.Fronts.{front-is, back-is}
 use Rattle.queue.proofs.Packing.{unpacked, repacked, packed-zeros, packed-insertAll, packed-left, packed-gone}
-use Rattle.network.specs.declared.NetworkOptions.{NetworkOptions}
+use Rattle.fates.specs.declared.NetworkOptions.{NetworkOptions}
 use Rattle.network.specs.declared.Network.{Network}
-use Rattle.network.specs.Options.{plainOptions}
+use Rattle.fates.specs.Options.{plainOptions}
 use Rattle.network.specs.Forms.{plainOf, structOf, isFormed}
-use Rattle.network.proofs.OptionForms.{Held, options-back}
+use Rattle.fates.proofs.OptionForms.{Held, options-back}
 
 -- ---- a well-formed struct
 

@@ -5,14 +5,13 @@ use mathlib.Core.Bool.{Bool, _&&_}
 use mathlib.Core.List.{List}
 use lib.ListN.{length, drop}
 use lib.Dec.{leb}
-use Rattle.nights.specs.Record.{Record, recordSize, recs}
-use Rattle.nights.specs.Net.{capacity, Network as Plain, Letter, every, goodRecord, rising, wellFormed}
+use Rattle.nights.specs.Record.{recordSize, recs}
+use Rattle.nights.specs.Net.{capacity, Network as Plain, Letter, wellFormed}
 use Rattle.queue.specs.Form.{zeros}
 use Rattle.queue.specs.Packed.{packed}
 use Rattle.network.specs.declared.Head.{Head}
 use Rattle.network.specs.declared.Network.{Network}
-use Rattle.network.specs.declared.Letter.{Letter as Told}
-use Rattle.network.specs.Options.{plainOptions, structOptions}
+use Rattle.fates.specs.Options.{plainOptions, structOptions}
 
 abbrev pub plainOf : Network → Plain
 plainOf s =
@@ -74,19 +73,6 @@ joined h w =
       delayed = h .delayed;
     }
 
--- the part of it that speaks of the records
-unfoldable pub recordsFormed : List ℕ → ℕ → ℕ → Bool
-recordsFormed w n q =
-    every (goodRecord q) (recs w 0 n) && (rising (recs w 0 n) && zeros (drop (recordSize * n) w))
-
--- what a send is told: from its parameters, and the code's own struct of it
+-- what a send is told, from its parameters
 abbrev pub letterOf : (now sort origin to kind handle : ℕ) → Letter
 letterOf n s o t k h = record { now = n; sort = s; origin = o; to = t; kind = k; handle = h }
-
-abbrev pub plainLetter : Told → Letter
-plainLetter m = letterOf (m .now) (m .sort) (m .origin) (m .to) (m .kind) (m .handle)
-
--- its copy that is due at a tick, under a number
-abbrev pub copyAt : Letter → (due seq : ℕ) → Record
-copyAt m d q =
-    record { due = d; seq = q; sentAt = m .now; sort = m .sort; origin = m .origin; to = m .to; kind = m .kind; handle = m .handle }

@@ -1,5 +1,4 @@
 -- The definitions that the crate's contracts cite: the code's structs and enums in their plain form, and its calls.
-pub mod Options
 pub mod Answers
 pub mod Forms
 pub mod Calls

@@ -18,12 +18,12 @@
 //   in flight         6 how many words of the output are lent
 //   put               6 place, 7 value: no call of ours, but a word of the network that is set
 // Bits that are no good probability stand for 2, in a network too.
+use fates::NetworkOptions;
+use fates::Refusal;
+use fates::Settled;
 use network::Counted;
 use network::Network;
-use network::NetworkOptions;
-use network::Refusal;
 use network::SendAnswer;
-use network::Settled;
 ghost use mathlib.Core.Path.{_≡_};
 ghost use Prim.Native.Nat.{_+_, _*_, _≤_, _<_};
 ghost use lib.ListN.{length};
@@ -440,7 +440,7 @@ fn send_outcome(options: NetworkOptions, case: [u64; 22]) -> usize
     if case[2] == 2 {
         return REPLAYED;
     }
-    if case[10] == network::REQUEST {
+    if case[10] == fates::REQUEST {
         if !options.fault_client_messages {
             return NOT_FAULTED;
         }

@@ -16,10 +16,10 @@ use Rattle.nights.proofs.Kept.{both, options-good}
 use Rattle.queue.proofs.Inserting.{length-recs}
 use Rattle.network.specs.declared.Head.{Head}
 use Rattle.network.specs.declared.Network.{Network}
-use Rattle.network.specs.Options.{plainOptions, structOptions}
+use Rattle.fates.specs.Options.{plainOptions, structOptions}
 use Rattle.network.specs.Forms.{plainOf, isFormed, headOf, joined}
 use Rattle.network.specs.Calls.{callAnswer, callNetwork}
-use Rattle.network.proofs.OptionForms.{good-done}
+use Rattle.fates.proofs.OptionForms.{good-done}
 use Rattle.network.proofs.Maps.{plain-formed}
 use Rattle.network.proofs.Calling.{call-well, stays, follows}
 use Rattle.network.proofs.Laws.{stays-formed}

@@ -8,7 +8,7 @@ use Rattle.chance.specs.Probability.{goodWord}
 use Rattle.nights.specs.Net.{Options, bit}
 use Rattle.network.specs.declared.Head.{Head}
 use Rattle.network.specs.declared.Network.{Network}
-use Rattle.network.specs.Options.{plainOptions, structOptions, perfectOptions}
+use Rattle.fates.specs.Options.{plainOptions, structOptions, perfectOptions}
 use Rattle.network.specs.Forms.{joined}
 use Rattle.network_words.specs.declared.Loaded.{Loaded}
 

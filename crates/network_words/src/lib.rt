@@ -4,10 +4,10 @@
 // A network is two rows of words. Its head is 12: the bits of the loss and of the replay probability, minimum, mean, whether client
 // messages are faulted (0 or 1), pending, seq, sent, delivered, lost, replayed, delayed. Its records are 1,024: eight words for each
 // pending message, in the order of delivery, and zeros behind them.
+use fates::NetworkOptions;
+use fates::Refusal;
 use network::Counted;
 use network::Head;
-use network::NetworkOptions;
-use network::Refusal;
 use network::SendAnswer;
 ghost use mathlib.Core.Path.{_≡_};
 ghost use mathlib.Core.Bool.{true, false, not};
@@ -19,9 +19,10 @@ ghost use Rattle.nights.specs.Record.{wordsOf};
 ghost use Rattle.nights.specs.Net.{keep, isDue, goodOptions, send, take, choose, bit};
 ghost use Rattle.nights.specs.Draws.{decided};
 ghost use Rattle.nights.specs.Journal.{verdict, optionTests};
-ghost use Rattle.network.specs.Answers.{number, sending};
+ghost use Rattle.fates.specs.Answers.{number};
+ghost use Rattle.network.specs.Answers.{sending};
 ghost use Rattle.network.specs.Forms.{plainOf, letterOf};
-ghost use Rattle.network.specs.Options.{plainOptions};
+ghost use Rattle.fates.specs.Options.{plainOptions};
 ghost use Rattle.network.specs.Calls.{written};
 ghost use Rattle.network_words.specs.Layout.{headWords, loaded, optionsFrom, networkIn, unloaded};
 ghost use Rattle.network_words.specs.Calls.{numberOf, onDone, answerIn, headAfter, recordsAfter, sendTold, formIn, listIn};

@@ -20,7 +20,7 @@ use Rattle.queue.specs.Packed.{packed}
 use Rattle.queue.specs.Places.{insertedAll}
 use Rattle.queue.proofs.Inserting.{length-recs}
 use Rattle.queue.proofs.Packing.{unpacked, repacked, packed-zeros, packed-insertAll}
-use Rattle.network.specs.declared.NetworkOptions.{NetworkOptions}
+use Rattle.fates.specs.declared.NetworkOptions.{NetworkOptions}
 use Rattle.network.specs.declared.Network.{Network}
 use Rattle.network.specs.Forms.{plainOf, isFormed}
 use Rattle.network.proofs.Maps.{small}

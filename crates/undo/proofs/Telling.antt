@@ -17,7 +17,7 @@ use Rattle.network.specs.Forms.{isFormed}
 use Rattle.network.specs.Answers.{Count, counting}
 use Rattle.network.specs.Calls.{formAnswer}
 use Rattle.network.proofs.Calling.{form-ill, form-well}
-use Rattle.network.proofs.WholeForm.{first, second}
+use Rattle.fates.proofs.Failing.{first, second}
 use Rattle.undo.specs.declared.Undone.{Undone}
 use Rattle.undo.specs.Undone.{undoneOf, sealedOf}
 

@@ -1,9 +1,9 @@
 // The undoing of calls from the journal's records alone, the last one first: each record that fits gives back the network from
 // before its call. The words of a journal may be forged: a record that does not fit, or that would leave an ill-formed network, is
 // told as such, and no sum of the walk wraps.
+use fates::NetworkOptions;
 use network::Counted;
 use network::Network;
-use network::NetworkOptions;
 ghost use mathlib.Core.Path.{_≡_};
 ghost use mathlib.Core.Bool.{true, false};
 ghost use mathlib.Core.List.{_++_};

@@ -7,9 +7,9 @@ use Rattle.chance.specs.Probability.{goodWord, isOne, isZero, thresholdOf}
 use Rattle.chance.specs.Draw.{byWord, genBool, genBoolInSend}
 use Rattle.plants.specs.State.{tested, plantCount, noneSet, countsFit}
 use Rattle.plants.specs.State as State
-use Rattle.liveness.specs.Shuffle.{shuffledFrom, picksWithin}
-use Rattle.liveness.specs.Core.{picksInRange, idsFrom, those, lineUp, inserted, sorted, coreOf}
-use Rattle.liveness.specs.Choice.{member, inCore, risen, flagsFit, healthyCount, lentTested, choiceTested, chosen}
+use Rattle.lineup.specs.Shuffle.{shuffledFrom, picksWithin}
+use Rattle.lineup.specs.Core.{picksInRange, idsFrom, those, lineUp, inserted, sorted, coreOf, flagsFit, healthyCount}
+use Rattle.liveness.specs.Choice.{member, inCore, risen, lentTested, choiceTested, chosen}
 use Rattle.nights.specs.Record.{wordsOf, recs}
 use Rattle.nights.specs.Net.{keep, every, earlier, insertBy, insertAll, dues, lostBy, replayedBy, delayedBy, copies, effect, goodOptions, goodRecord, ahead, rising, goodCounts, wellFormed}
 use Rattle.nights.specs.Draws.{isFaulted, extrasFor, extraAt, dueAt, isTick, isLate, alone, both, afterReplay, afterLoss, decided}

@@ -11,7 +11,8 @@ use Rattle.nights.specs.Net.{Plain as Call}
 use Rattle.network.specs.declared.Network.{Network}
 use Rattle.network.specs.Forms.{joined}
 use Rattle.network.specs.Calls.{callAnswer, callNetwork}
-use Rattle.network.specs.Answers.{number, sentOf, sending}
+use Rattle.fates.specs.Answers.{number}
+use Rattle.network.specs.Answers.{sentOf, sending}
 use Rattle.nights.specs.Draws.{Decided}
 use Rattle.nights.specs.Journal.{done}
 use Rattle.network_words.proofs.Told.{sent-refused, sent-done, sent-told}

@@ -1,5 +1,6 @@
 -- `journal::mark` meets its contract. Assumes nothing.
-use Rattle.journal.proofs.Words.{headed, mark-short, mark-long}
+use Rattle.ledger.proofs.Words.{headed}
+use Rattle.journal.proofs.Marks.{mark-short, mark-long}
 use mathlib.Core.Path.{sym, ap, _∙_}
 use Rattle.nights.specs.Journal.{Step}
 use borrow.Author.Needs.{needs}

@@ -5,7 +5,7 @@ use borrow.Author.Tests.{not-true, not-false}
 use Rattle.plants.specs.State.{tested, countsFit}
 use Rattle.plants.specs.declared.refusal.Test.the-variants.{Passed}
 use Rattle.plants.proofs.Testing.{counts}
-use Rattle.liveness.specs.Core.{idsFrom, those, coreOf}
+use Rattle.lineup.specs.Core.{idsFrom, those, coreOf}
 use Rattle.liveness.specs.Choice.{isSet, settledBy, settled, padded, lentTested}
 use Rattle.liveness.specs.declared.Choice.the-variants.{Made}
 use Rattle.liveness.proofs.Lending.{Ready, lent-passed}

@@ -4,7 +4,7 @@ use Prim.Native.Nat.{_≤_}
 use lib.ListN.{length, take}
 use lib.Seq.{length-take-le}
 use lib.Dec.{leb}
-use Rattle.liveness.specs.Core.{tally}
+use Rattle.lineup.specs.Core.{tally}
 use Rattle.liveness.specs.Choice.{inCore}
 use Rattle.liveness.proofs.Lending.{Ready}
 use Rattle.liveness.proofs.Choosing.{front, first-ready, second-ready, size-fits, front-is, front-below, flags-of-front}

@@ -6,7 +6,7 @@ use mathlib.Core.Bool.{true}
 use lib.ListN.{length, take, getD, set}
 use lib.Seq.{take-all}
 use Rattle.liveness.specs.Choice.{inCore}
-use Rattle.liveness.proofs.Tallies.{all-below}
+use Rattle.lineup.proofs.Tallies.{all-below}
 use Rattle.liveness.proofs.Marking.{no-flags, mark-next}
 use Rattle.liveness.proofs.members.Statement.{statement}
 use Rattle.liveness.proofs.members.Tie as tie

@@ -6,8 +6,8 @@ use mathlib.Core.Bool.{not, _&&_, false}
 use borrow.Author.Needs.{needs}
 use lib.ListN.{drop, getD}
 use Rattle.liveness.specs.Choice.{risen}
-use Rattle.liveness.proofs.Tallies.{at-most-one}
-use Rattle.liveness.proofs.Walks.{risen-next, risen-end}
+use Rattle.lineup.proofs.Tallies.{at-most-one}
+use Rattle.liveness.proofs.RisenFlags.{risen-next, risen-end}
 use Rattle.liveness.proofs.risen.Statement.{statement}
 use Rattle.liveness.proofs.risen.Tie as tie
 

@@ -6,11 +6,11 @@ use mathlib.Core.Bool.{true, false}
 use mathlib.Core.List.{_++_}
 use mathlib.Core.Logic.{⊎-elim}
 use lib.ListN.{replicate}
-use Rattle.liveness.specs.Core.{idsFrom, those}
+use Rattle.lineup.specs.Core.{idsFrom, those}
 use Rattle.liveness.specs.Choice.{isSet}
-use Rattle.liveness.proofs.Ids.{length-ids, those-next}
-use Rattle.liveness.proofs.Walks.{Written, written-more, written-same, drop-zeros}
-use Rattle.liveness.proofs.Tallies.{tally-le}
+use Rattle.lineup.proofs.Ids.{length-ids, those-next}
+use Rattle.lineup.proofs.Walks.{Written, written-more, written-same, drop-zeros}
+use Rattle.lineup.proofs.Tallies.{tally-le}
 use Rattle.liveness.proofs.rising.Statement.{statement}
 use Rattle.liveness.proofs.rising.Tie as tie
 

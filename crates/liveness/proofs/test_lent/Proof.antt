@@ -8,8 +8,7 @@ use lib.ListN.{length}
 use Rattle.plants.specs.State.{tested}
 use Rattle.plants.specs.declared.refusal.Test.the-variants.{Passed}
 use Rattle.plants.proofs.Testing.{bounds}
-use Rattle.liveness.specs.Core.{quorum}
-use Rattle.liveness.specs.Choice.{flagsFit, healthyCount}
+use Rattle.lineup.specs.Core.{quorum, flagsFit, healthyCount}
 use Rattle.liveness.proofs.Lending.{bad-state, other-length, flag-over, too-few-healthy, too-few-picks, by-range}
 use borrow.Author.Needs.{needs}
 use Rattle.liveness.proofs.test_lent.Statement.{statement}

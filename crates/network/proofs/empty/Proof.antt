@@ -2,7 +2,7 @@
 use denote.Floats.{passes}
 use Rattle.nights.specs.Record.{wordsOf}
 use Rattle.queue.specs.Packed.{packed}
-use Rattle.network.proofs.OptionForms.{Held, options-back}
+use Rattle.fates.proofs.OptionForms.{Held, options-back}
 use Rattle.network.proofs.empty.Statement.{statement}
 use Rattle.network.proofs.empty.Tie as tie
 

@@ -12,7 +12,7 @@ use Rattle.network.specs.declared.Network.{Network}
 use Rattle.network.specs.Answers.{counting}
 use Rattle.network.specs.Calls.{written}
 use Rattle.network.specs.Forms.{joined}
-use Rattle.network.proofs.OptionForms.{Held}
+use Rattle.fates.proofs.OptionForms.{Held}
 use Rattle.network.proofs.Maps.{small, counts, taken-count, taken-out, taken-network}
 use Rattle.network.proofs.Calling.{untaken, follows, take-short, take-well}
 use borrow.Author.Needs.{needs}

@@ -1,0 +1,5 @@
+-- Laws that belong to no one function.
+pub mod Failing
+pub mod OptionForms
+pub mod Deciding
+pub mod Numbers

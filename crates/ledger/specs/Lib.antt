@@ -1,0 +1,2 @@
+-- The definition that the crate's contracts cite.
+pub mod Records

@@ -1,0 +1,7 @@
+-- The words of an options record (RULES, "Journal"). Assumes nothing.
+use Prim.Native.Nat.{ℕ}
+use mathlib.Core.List.{List, [], _∷_}
+use Rattle.nights.specs.Net.{Options, bit}
+
+abbrev pub optionsRecord : Options → List ℕ
+optionsRecord o = o .loss ∷ o .replay ∷ o .least ∷ o .mean ∷ bit (o .faulted) ∷ 3 ∷ 7 ∷ []
