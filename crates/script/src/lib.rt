@@ -6,7 +6,8 @@ use fault::Fault;
 use line::Line;
 use line::Refusal;
 ghost use mathlib.Core.Path.{_≡_};
-ghost use Prim.Native.Nat.{_+_, _*_, _≤_};
+ghost use Prim.Native.Nat.{ℕ, _+_, _*_, _≤_};
+ghost use lib.Dec.{eqb};
 ghost use lib.ListN.{length};
 ghost use Rattle.numeral.specs.Writing.{laid};
 ghost use Rattle.order.specs.Order.{wordsOf};
@@ -28,6 +29,9 @@ pub enum Judged {
 // The most bytes that a text may have.
 pub const LONGEST: usize = 65536;
 
+// Three words for each of the 7,281 events that so many bytes can hold.
+const HELD: usize = 21843;
+
 // A refusal's number.
 pub fn refusal_number(refusal: Refusal) -> u64
     ensures { λ r. ⌜ r ≡ refusalNumber refusal ⌝ }
@@ -42,6 +46,20 @@ pub fn refusal_number(refusal: Refusal) -> u64
         Refusal::BadId => 7,
         Refusal::NoRoom => 8,
     }
+}
+
+// Whether no byte is over 127. All bytes are gathered before one test, many of them at a time: a loop
+// that could end early would take one after the other.
+fn ascii(text: &[u8]) -> bool
+    ensures { λ b. ⌜ b ≡ eqb (strayLine (now (text .entry))) 0 ⌝ }
+{
+    let mut gathered: u8 = 0;
+    let mut i: usize = 0;
+    while i < text.len() {
+        gathered = gathered | text[i];
+        i += 1;
+    }
+    gathered < 128
 }
 
 // The line of the first byte over 127, or 0 where there is none.
@@ -63,53 +81,23 @@ fn stray_line(text: &[u8]) -> usize
     0
 }
 
-// One line, with `found` events before it and room for `room` in all.
-fn judge_line(line: &[u8], found: usize, room: usize) -> Judged
-    ensures { λ r. ⌜ r ≡ judgedLine room found (lineSays (now (line .entry))) ⌝ }
+// One line, with `found` events before it and room for `room` in all. Its event, if it has one, is
+// written behind them.
+fn read_line(line: &[u8], held: &mut [u64], found: usize, room: usize) -> Judged
+    requires { ⌜ 3 * (found + length (eventsIn (lineSays (now line)))) ≤ length (now held) ⌝ }
+    ensures answer { λ r. ⌜ r ≡ judgedLine room found (lineSays (now (line .entry))) ⌝ }
+    ensures words { λ r. ⌜ ((next : ℕ) → r ≡ Judged.Found next → now (held .exit) ≡ laid (now (held .entry)) (3 * found) (wordsOf (eventsIn (lineSays (now (line .entry)))))) ⌝ }
 {
     match line::parse_line(line) {
         Line::Blank => Judged::Found(found),
-        Line::Event(_, _) => {
+        Line::Event(tick, fault) => {
             if found < room {
-                Judged::Found(found + 1)
+                Judged::Found(put_event(held, found, tick, fault))
             } else {
                 Judged::Stopped(Refusal::NoRoom)
             }
         }
         Line::Faulty(refusal) => Judged::Stopped(refusal),
-    }
-}
-
-// Reads the lines without writing an event: a script that is refused leaves the words as they came.
-fn judge(text: &[u8], room: usize) -> Script
-    ensures { λ r. ⌜ r ≡ judged room 1 0 (said (now (text .entry))) ⌝ }
-{
-    let mut found: usize = 0;
-    let mut line: usize = 1;
-    let mut at: usize = 0;
-    while at <= text.len() {
-        let end = words::find(text, b'\n', at);
-        match judge_line(&text[at..end], found, room) {
-            Judged::Stopped(refusal) => return Script::Refused(refusal, line),
-            Judged::Found(next) => found = next,
-        }
-        line += 1;
-        at = end + 1;
-    }
-    Script::Events(found)
-}
-
-// Writes the event of a line, if it has one, behind the `count` events before it, and answers how
-// many there are then.
-fn put_line(line: &[u8], events: &mut [u64], count: usize) -> usize
-    requires { ⌜ 3 * (count + length (eventsIn (lineSays (now line)))) ≤ length (now events) ⌝ }
-    ensures count { λ r. ⌜ r ≡ count + length (eventsIn (lineSays (now (line .entry)))) ⌝ }
-    ensures words { λ r. ⌜ now (events .exit) ≡ laid (now (events .entry)) (3 * count) (wordsOf (eventsIn (lineSays (now (line .entry))))) ⌝ }
-{
-    match line::parse_line(line) {
-        Line::Blank => count,
-        Line::Event(tick, fault) => put_event(events, count, tick, fault),
-        Line::Faulty(_) => count,
     }
 }
 
@@ -126,24 +114,33 @@ fn put_event(events: &mut [u64], count: usize, tick: u64, fault: Fault) -> usize
     count + 1
 }
 
-// Writes the events of a script that was accepted, in file order.
-fn fill(text: &[u8], events: &mut [u64])
-    requires { ⌜ 3 * length (eventsOf (said (now text))) ≤ length (now events) ⌝ }
-    ensures { λ _. ⌜ now (events .exit) ≡ laid (now (events .entry)) 0 (wordsOf (eventsOf (said (now (text .entry))))) ⌝ }
+// Reads the lines. The events of a script that is accepted then stand at the front of the held
+// words, in file order.
+fn read_lines(text: &[u8], held: &mut [u64], room: usize) -> Script
+    requires { ⌜ (length (now text) ≤ 65536) × (21843 ≤ length (now held)) ⌝ }
+    ensures answer { λ r. ⌜ r ≡ judged room 1 0 (said (now (text .entry))) ⌝ }
+    ensures words { λ r. ⌜ ((n : ℕ) → r ≡ Script.Events n → now (held .exit) ≡ laid (now (held .entry)) 0 (wordsOf (eventsOf (said (now (text .entry)))))) ⌝ }
 {
-    let mut count: usize = 0;
+    let mut found: usize = 0;
+    let mut line: usize = 1;
     let mut at: usize = 0;
     while at <= text.len() {
         let end = words::find(text, b'\n', at);
-        count = put_line(&text[at..end], events, count);
+        match read_line(&text[at..end], held, found, room) {
+            Judged::Stopped(refusal) => return Script::Refused(refusal, line),
+            Judged::Found(next) => found = next,
+        }
+        line += 1;
         at = end + 1;
     }
+    Script::Events(found)
 }
 
 // Reads a script with one `TICK FAULT` on a line, `#` starting a comment, into the lent words: three
-// for each event, tick, fault and id, sorted by tick. It goes over the text three times and then
-// sorts: 7,281 events, the most that 65,536 bytes can hold, cost no more in falling order of ticks
-// than in any other (crate order).
+// for each event, tick, fault and id, sorted by tick. After a look for bytes over 127 it reads each
+// line once, and holds the events apart until it has read the last, for a refusal leaves the lent
+// words as they came. Then it copies and sorts them: 7,281 events, the most that 65,536 bytes can
+// hold, cost no more in falling order of ticks than in any other (crate order).
 pub fn parse_script(text: &[u8], events: &mut [u64]) -> Script
     ensures answer { λ r. ⌜ r ≡ answerOf (now (text .entry)) (length (now (events .entry))) ⌝ }
     ensures words { λ r. ⌜ now (events .exit) ≡ wordsAfter (now (text .entry)) (now (events .entry)) ⌝ }
@@ -151,15 +148,16 @@ pub fn parse_script(text: &[u8], events: &mut [u64]) -> Script
     if LONGEST < text.len() {
         return Script::Refused(Refusal::TooLong, 0);
     }
-    let stray = stray_line(text);
-    if stray != 0 {
-        return Script::Refused(Refusal::NotAscii, stray);
+    if !ascii(text) {
+        return Script::Refused(Refusal::NotAscii, stray_line(text));
     }
-    let answer = judge(text, events.len() / 3);
+    let mut held = [0u64; HELD];
+    let answer = read_lines(text, &mut held, events.len() / 3);
     let Script::Events(count) = answer else {
         return answer;
     };
-    fill(text, events);
-    order::sort(events, count);
+    let end = 3 * count;
+    order::copy_front(&held, &mut events[..end]);
+    order::sort(events, count, &mut held);
     answer
 }

@@ -1,12 +1,14 @@
 -- `script::parse_script` meets its contract: the tests come in the definition's order, and words are written only once the answer is known.
 -- Assumes nothing.
-use borrow.Author.Tests.{lt-ltb, le-ltb, eq-eqb, ne-eqb}
+use borrow.Author.Tests.{lt-ltb, le-ltb}
 use native.Mathlib.Omega.{arith}
+use mathlib.Core.Bool.{Bool, true, false, not, false≢true}
 use mathlib.Core.List.{List, _++_}
 use mathlib.Core.Path.{_≡_, refl, sym, ap, _∙_}
 use Prim.Native.Nat.{ℕ, _+_, _*_, _/_, _≤_, _<_}
-use lib.ListN.{length, take, drop}
-use lib.Seq.{take-at, drop-at}
+use lib.Dec.{eqb}
+use lib.ListN.{length, take, drop, length-take, length-append}
+use lib.Seq.{take-at, drop-at, length-take-le}
 use Rattle.numeral.specs.Writing.{laid}
 use Rattle.order.specs.Order.{wordsOf, eventsIn, sorted}
 use Rattle.order.proofs.Laws.{length-wordsOf, eventsIn-wordsOf}
@@ -27,13 +29,15 @@ module _ (text : List ℕ) (n : ℕ) where
   unfolding answerOf
   too-long h = rw (lt-ltb longest (length text) h)
 
-  stray : (line : ℕ) → length text ≤ longest → line ≡ strayLine text → (line ≡ 0 → ⊥) → answerOf text n ≡ Refused NotAscii line
+  stray : (b : Bool) → length text ≤ longest → b ≡ eqb (strayLine text) 0 → not b ≡ true → answerOf text n ≡ Refused NotAscii (strayLine text)
   unfolding answerOf
-  stray line h e s = rw (le-ltb longest (length text) h, ← e, ne-eqb line 0 s)
+  stray true h e s = absurd (false≢true s)
+  stray false h e s = rw (le-ltb longest (length text) h, ← e)
 
-  judges : (line : ℕ) → length text ≤ longest → line ≡ strayLine text → line ≡ 0 → answerOf text n ≡ judged (n / 3) 1 0 (said text)
+  judges : (b : Bool) → length text ≤ longest → b ≡ eqb (strayLine text) 0 → not b ≡ false → answerOf text n ≡ judged (n / 3) 1 0 (said text)
   unfolding answerOf
-  judges line h e s = rw (le-ltb longest (length text) h, ← e, eq-eqb line 0 s)
+  judges true h e s = rw (le-ltb longest (length text) h, ← e)
+  judges false h e s = absurd (false≢true (sym s))
 
 -- ---- the words, by the answer
 module _ (text words : List ℕ) where
@@ -44,53 +48,78 @@ module _ (text words : List ℕ) where
   refused : (r : Refusal) (n : ℕ) → answerOf text (length words) ≡ Refused r n → (Refused r n ≡ answerOf text (length words)) × (words ≡ wordsAfter text words)
   refused r n e = (sym e, unchanged r n e)
 
-  given : (filled : List ℕ) (n : ℕ) (w : List ℕ) → answerOf text (length words) ≡ Events n → n ≡ length (eventsOf (said text))
-      → filled ≡ laid words 0 (wordsOf (eventsOf (said text)))
-      → w ≡ wordsOf (sorted (eventsIn (take (3 * n) filled))) ++ drop (3 * n) filled → w ≡ wordsAfter text words
-  unfolding wordsAfter sortedEvents
-  given filled n w e m f g =
-      let all = eventsOf (said text) in
-      let k : length (wordsOf all) ≡ 3 * n = omega (arith, length-wordsOf all) in
-      let z : 0 + 3 * n ≡ 3 * n = omega arith in
-      rw
-      (e, g, f, k, z, take-at (wordsOf all) (drop (3 * n) words) (3 * n) k, drop-at (wordsOf all) (drop (3 * n) words) (3 * n) k, eventsIn-wordsOf all)
+  -- n events were found, and they stand in the held words
+  module _ (n : ℕ) (counted : n ≡ length (eventsOf (said text))) (fits : 3 * n ≤ length words) where
+    size : length (wordsOf (eventsOf (said text))) ≡ 3 * n
+    size = omega (arith, length-wordsOf (eventsOf (said text)))
 
--- ---- the judge's answer
-answered : (c : tie.After-judge)
-    → answerOf (c .before .before .before .before .before .before .args .text .now) (length (c .before .before .before .before .before .before .args .events .now)) ≡ c .judge .result
+    copied : (start held front : List ℕ) → held ≡ laid start 0 (wordsOf (eventsOf (said text))) → front ≡ take (length (take (3 * n) words)) held
+        → front ≡ wordsOf (eventsOf (said text))
+    copied start held front e f =
+        f ∙ rw (length-take-le (3 * n) words fits, e) (take-at (wordsOf (eventsOf (said text))) (drop (0 + length (wordsOf (eventsOf (said text)))) start) (3 * n) size)
+
+    given : (front w : List ℕ) → answerOf text (length words) ≡ Events n → front ≡ wordsOf (eventsOf (said text))
+        → w ≡ wordsOf (sorted (eventsIn (take (3 * n) (front ++ drop (3 * n) words)))) ++ drop (3 * n) (front ++ drop (3 * n) words) → w ≡ wordsAfter text words
+    unfolding wordsAfter sortedEvents
+    given front w e f g =
+        let all = eventsOf (said text) in
+        rw (e, g, f, take-at (wordsOf all) (drop (3 * n) words) (3 * n) size, drop-at (wordsOf all) (drop (3 * n) words) (3 * n) size, eventsIn-wordsOf all)
+
+-- words whose front was written are as many as before
+as-long : (words front : List ℕ) (n : ℕ) → n ≤ length words → length front ≡ length (take n words) → n ≤ length (front ++ drop n words)
+as-long words front n h e = omega (arith, length-append front (drop n words), length-take-le n words h)
+
+-- ---- the answer of the lines
+abbrev start : tie.After-read-lines → tie.Start
+start c = c .before .before .before .before .before .before .before
+
+answered : (c : tie.After-read-lines) → answerOf (start c .args .text .now) (length (start c .args .events .now)) ≡ c .read-lines .result
 answered c =
-    let r = c .before .before in
-    let a = r .before .before .before .before .args in
-    judges (a .text .now) (length (a .events .now)) (r .stray-line .result) (r .before .if1 .left) (r .stray-line .ensures) (c .before .if2 .left)
-    ∙ sym (c .judge .ensures)
+    let i = c .before .before in
+    let a = start c .args in
+    judges (a .text .now) (length (a .events .now)) (i .before .ascii .result) (i .before .before .if1 .left) (i .before .ascii .ensures) (i .if2 .left)
+    ∙ sym (c .read-lines .ensures .0)
 
-counted : (c : tie.After-judge) (m : ℕ) → c .judge .result ≡ Events m
-    → (m ≡ length (eventsOf (said (c .before .before .before .before .before .before .args .text .now))))
-    × (3 * m ≤ length (c .before .before .before .before .before .before .args .events .now))
-counted c m e =
-    let a = c .before .before .before .before .before .before .args in
-    let n = accepted (length (a .events .now) / 3) 1 0 m (said (a .text .now)) (sym (c .judge .ensures) ∙ e) in
+-- how many events there are, and that they fit
+record Counted (text words : List ℕ) (m : ℕ) : Type 0 where
+  all : m ≡ length (eventsOf (said text))
+  fits : 3 * m ≤ length words
+  most : m ≤ 7281
+
+counts : (c : tie.After-read-lines) (m : ℕ) → c .read-lines .result ≡ Events m → Counted (start c .args .text .now) (start c .args .events .now) m
+counts c m e =
+    let a = start c .args in
+    let n = accepted (length (a .events .now) / 3) 1 0 m (said (a .text .now)) (sym (c .read-lines .ensures .0) ∙ e) in
     let h = n .1 (omega arith) in
-    (omega (arith, n .0), omega arith)
+    let k : m ≡ length (eventsOf (said (a .text .now))) = omega (arith, n .0) in
+    record { all = k; fits = omega arith; most = omega (arith, at-most (a .text .now), c .before .before .before .before .if1 .left) }
+
+counted : (c : tie.After-known-told) → Counted (start (c .before .before .before .before) .args .text .now) (start (c .before .before .before .before) .args .events .now) (c .before .answer .given .0 .0)
+counted c = counts (c .before .before .before .before) (c .before .answer .given .0 .0) (c .before .answer .given .1)
 
 returns : tie.Need-returns
 returns c =
     let a = c .before .before .before .args in
     refused (a .text .now) (a .events .now) TooLong 0 (too-long (a .text .now) (length (a .events .now)) (c .if1 .taken))
 
+ascii-requires : tie.Need-ascii-requires
+ascii-requires c κs = search needs
+
 stray-line-requires : tie.Need-stray-line-requires
 stray-line-requires c κs = search needs
 
 returns-2 : tie.Need-returns-2
 returns-2 c =
-    let r = c .before in
-    let a = r .before .before .before .before .args in
-    let n = r .stray-line .ensures in
-    refused (a .text .now) (a .events .now) NotAscii (r .stray-line .result)
-    (stray (a .text .now) (length (a .events .now)) (r .stray-line .result) (r .before .if1 .left) n (c .if2 .taken))
+    let i = c .before in
+    let a = i .before .before .before .before .before .args in
+    let e = stray (a .text .now) (length (a .events .now)) (i .before .ascii .result) (i .before .before .if1 .left) (i .before .ascii .ensures) (i .if2 .taken) in
+    refused (a .text .now) (a .events .now) NotAscii (c .stray-line .result) (e ∙ ap (Refused NotAscii) (sym (c .stray-line .ensures)))
 
-judge-requires : tie.Need-judge-requires
-judge-requires c κs = search needs
+slice-aggregate-read-lines : tie.Need-slice-aggregate-read-lines
+slice-aggregate-read-lines c = search needs
+
+read-lines-requires : tie.Need-read-lines-requires
+read-lines-requires c κs = search needs
 
 enum-known-answer : tie.Need-enum-known-answer
 enum-known-answer c = search needs
@@ -100,50 +129,74 @@ enum-told c = search needs
 
 returns-3 : tie.Need-returns-3
 returns-3 c =
-    let j = c .before .before in
+    let r = c .before .before .before in
     let t = c .enum-told .given in
-    let a = j .before .before .before .before .before .before .args in
-    let e = answered j in
+    let a = start r .args in
+    let e = answered r in
     (sym e, unchanged (a .text .now) (a .events .now) (t .0 .0) (t .0 .1 .0) (e ∙ t .1))
 
-fill-requires : tie.Need-fill-requires
-fill-requires c κs =
-    let j = c .before .before .before .before in
-    let a = j .before .before .before .before .before .before .args in
-    let n = counted j (c .before .before .answer .given .0 .0) (c .before .before .answer .given .1) in
-    omega (arith, n .0, n .1)
+mul-end : tie.Need-mul-end
+mul-end c = let n = counted c .most in omega (arith, n)
+
+slice-aggregate-copy-front : tie.Need-slice-aggregate-copy-front
+slice-aggregate-copy-front c = search needs
+
+slice-relend-prefix-copy-front : tie.Need-slice-relend-prefix-copy-front
+slice-relend-prefix-copy-front c = counted (c .before) .fits
+
+slice-aggregate-copy-front-2 : tie.Need-slice-aggregate-copy-front-2
+slice-aggregate-copy-front-2 c =
+    let k = c .before .before in
+    sym (length-take-le (3 * k .before .answer .given .0 .0) (start (k .before .before .before .before) .args .events .now) (counted k .fits))
+
+copy-front-requires : tie.Need-copy-front-requires
+copy-front-requires c κs = simp length-take (omega (arith, counted (c .before .before) .most))
+
+slice-aggregate-sort : tie.Need-slice-aggregate-sort
+slice-aggregate-sort c = search needs
 
 sort-requires : tie.Need-sort-requires
 sort-requires c κs =
-    let j = c .before .before .before .before .before .before .before .before in
-    let a = j .before .before .before .before .before .before .args in
-    let n = counted j (c .before .before .before .before .before .before .answer .given .0 .0) (c .before .before .before .before .before .before .answer .given .1) in
-    (omega (arith, n .0, at-most (a .text .now), j .before .before .before .if1 .left), omega (arith, n .1, c .before .before .before .fill .kept .1 .0))
+    let f = c .before .before .before .before in
+    let k = f .before .before .before in
+    let r = k .before .before .before .before in
+    let n = counted k in
+    (omega (arith, n .most), (as-long (start r .args .events .now) (f .copy-front .last .1 .0) _ (n .fits) (f .copy-front .kept .1 .0), omega (arith, r .read-lines .kept .1 .0)))
 
 same-length : tie.Need-same-length
 same-length c = search needs
 
 returns-4 : tie.Need-returns-4
 returns-4 c =
-    let j = c .before .before .before .before .before .before .before .before .before .before .before in
-    let a = j .before .before .before .before .before .before .args in
-    let m = c .before .before .before .before .before .before .before .before .before .answer .given .0 .0 in
-    let n = counted j m (c .before .before .before .before .before .before .before .before .before .answer .given .1) in
-    let e = answered j ∙ c .before .before .before .before .before .before .before .before .before .answer .given .1 in
-    (sym e, given (a .text .now) (a .events .now) (c .before .before .before .before .before .before .fill .last .1 .0) m (c .before .before .sort .last .0) e (n .0) (c .before .before .before .before .before .before .fill .ensures) (c .before .before .sort .ensures))
+    let s = c .before .before .before in
+    let f = s .before .before .before .before .before in
+    let k = f .before .before .before in
+    let r = k .before .before .before .before in
+    let a = start r .args in
+    let m = k .before .answer .given .0 .0 in
+    let n = counted k in
+    let e = answered r ∙ k .before .answer .given .1 in
+    (sym e, given (a .text .now) (a .events .now) m (n .all) (n .fits) (f .copy-front .last .1 .0) (s .sort .last .0) e (copied (a .text .now) (a .events .now) m (n .all) (n .fits) _ (r .read-lines .last .1 .0) (f .copy-front .last .1 .0) (r .read-lines .ensures .1 m (k .before .answer .given .1)) (f .copy-front .ensures)) (s .sort .ensures))
 
 pub parse-script-spec : {M : Type 1} → statement M
 parse-script-spec =
     tie.close
     (tie.spec
     returns
+    ascii-requires
     stray-line-requires
     returns-2
-    judge-requires
+    slice-aggregate-read-lines
+    read-lines-requires
     enum-known-answer
     enum-told
     returns-3
-    fill-requires
+    mul-end
+    slice-aggregate-copy-front
+    slice-relend-prefix-copy-front
+    slice-aggregate-copy-front-2
+    copy-front-requires
+    slice-aggregate-sort
     sort-requires
     same-length
     returns-4)
