@@ -6,13 +6,13 @@ use fault::Fault;
 use line::Line;
 use line::Refusal;
 ghost use mathlib.Core.Path.{_≡_};
-ghost use Prim.Native.Nat.{ℕ, _+_, _*_, _≤_};
+ghost use Prim.Native.Nat.{ℕ, _+_, _*_, _/_, _≤_};
 ghost use lib.Dec.{eqb};
 ghost use lib.ListN.{length};
 ghost use Rattle.numeral.specs.Writing.{laid};
 ghost use Rattle.order.specs.Order.{wordsOf};
 ghost use Rattle.script.specs.Lines.{lineSays};
-ghost use Rattle.script.specs.Scripts.{refusalNumber, strayLine, judged, judgedLine, said, eventsIn, eventsOf, answerOf, wordsAfter};
+ghost use Rattle.script.specs.Scripts.{refusalNumber, strayLine, judged, judgedLine, said, eventsIn, eventsOf, answerOf, wordsGiven, wordsAfter};
 
 // What a script says: how many events it has, or why it is refused and at which line.
 pub enum Script {
@@ -90,14 +90,21 @@ fn read_line(line: &[u8], held: &mut [u64], found: usize, room: usize) -> Judged
 {
     match line::parse_line(line) {
         Line::Blank => Judged::Found(found),
-        Line::Event(tick, fault) => {
-            if found < room {
-                Judged::Found(put_event(held, found, tick, fault))
-            } else {
-                Judged::Stopped(Refusal::NoRoom)
-            }
-        }
+        Line::Event(tick, fault) => take_event(held, found, room, tick, fault),
         Line::Faulty(refusal) => Judged::Stopped(refusal),
+    }
+}
+
+// Writes an event behind `found` others, if there is room for it.
+fn take_event(held: &mut [u64], found: usize, room: usize, tick: u64, fault: Fault) -> Judged
+    requires { ⌜ 3 * (found + 1) ≤ length (now held) ⌝ }
+    ensures answer { λ r. ⌜ r ≡ judgedLine room found (Line.Event tick fault) ⌝ }
+    ensures words { λ r. ⌜ ((next : ℕ) → r ≡ Judged.Found next → now (held .exit) ≡ laid (now (held .entry)) (3 * found) (wordsOf (eventsIn (Line.Event tick fault)))) ⌝ }
+{
+    if found < room {
+        Judged::Found(put_event(held, found, tick, fault))
+    } else {
+        Judged::Stopped(Refusal::NoRoom)
     }
 }
 
@@ -136,11 +143,27 @@ fn read_lines(text: &[u8], held: &mut [u64], room: usize) -> Script
     Script::Events(found)
 }
 
+// The script of a text with no more bytes than may be and none over 127. Its events are held apart
+// until the last line was read, for a refusal leaves the lent words as they came.
+fn read_script(text: &[u8], events: &mut [u64], held: &mut [u64]) -> Script
+    requires { ⌜ (length (now text) ≤ 65536) × (21843 ≤ length (now held)) ⌝ }
+    ensures answer { λ r. ⌜ r ≡ judged (length (now (events .entry)) / 3) 1 0 (said (now (text .entry))) ⌝ }
+    ensures words { λ r. ⌜ now (events .exit) ≡ wordsGiven r (now (text .entry)) (now (events .entry)) ⌝ }
+{
+    let answer = read_lines(text, held, events.len() / 3);
+    let Script::Events(count) = answer else {
+        return answer;
+    };
+    let end = 3 * count;
+    order::copy_front(held, &mut events[..end]);
+    order::sort(events, count, held);
+    answer
+}
+
 // Reads a script with one `TICK FAULT` on a line, `#` starting a comment, into the lent words: three
 // for each event, tick, fault and id, sorted by tick. After a look for bytes over 127 it reads each
-// line once, and holds the events apart until it has read the last, for a refusal leaves the lent
-// words as they came. Then it copies and sorts them: 7,281 events, the most that 65,536 bytes can
-// hold, cost no more in falling order of ticks than in any other (crate order).
+// line once, and then sorts: 7,281 events, the most that 65,536 bytes can hold, cost no more in
+// falling order of ticks than in any other (crate order).
 pub fn parse_script(text: &[u8], events: &mut [u64]) -> Script
     ensures answer { λ r. ⌜ r ≡ answerOf (now (text .entry)) (length (now (events .entry))) ⌝ }
     ensures words { λ r. ⌜ now (events .exit) ≡ wordsAfter (now (text .entry)) (now (events .entry)) ⌝ }
@@ -152,12 +175,5 @@ pub fn parse_script(text: &[u8], events: &mut [u64]) -> Script
         return Script::Refused(Refusal::NotAscii, stray_line(text));
     }
     let mut held = [0u64; HELD];
-    let answer = read_lines(text, &mut held, events.len() / 3);
-    let Script::Events(count) = answer else {
-        return answer;
-    };
-    let end = 3 * count;
-    order::copy_front(&held, &mut events[..end]);
-    order::sort(events, count, &mut held);
-    answer
+    read_script(text, events, &mut held)
 }
