@@ -11,7 +11,6 @@ use Rattle.numeral.specs.declared.Number.the-variants.{Value, Bad}
 use Rattle.script.specs.Faults.{namedBy, needsId, withId}
 use Rattle.script.specs.Lines.{withNumber, withWords, withFault, withName, withTick, ofWords, present}
 use Rattle.script.specs.declared.fault.Fault.{Fault}
-use Rattle.script.specs.declared.fault.Named.{Named}
 use Rattle.script.specs.declared.fault.Named.the-variants.{Is, Unknown}
 use Rattle.script.specs.declared.line.Line.{Line}
 use Rattle.script.specs.declared.line.Line.the-variants.{Blank, Event, Faulty}
@@ -48,30 +47,20 @@ one-word [] v ws h k = absurd (h refl)
 one-word (b ∷ bs) [] ws h k = refl
 one-word (b ∷ bs) (x ∷ xs) ws h k = absurd (omega arith)
 
-two-words : (w v : List ℕ) (ws : List (List ℕ)) → (length w ≡ 0 → ⊥) → (length v ≡ 0 → ⊥) → withTick (numberOf w) v ws ≡ ofWords (led w (led v ws))
+pub two-words : (w v : List ℕ) (ws : List (List ℕ)) → (length w ≡ 0 → ⊥) → (length v ≡ 0 → ⊥) → withTick (numberOf w) v ws ≡ ofWords (led w (led v ws))
 unfolding ofWords
 two-words [] v ws h k = absurd (h refl)
 two-words (b ∷ bs) [] ws h k = absurd (k refl)
 two-words (b ∷ bs) (x ∷ xs) ws h k = refl
 
--- ---- an event's words
-module _ (w v u : List ℕ) where
-  pub bad-tick : numberOf w ≡ Bad → Faulty BadTick ≡ withTick (numberOf w) v (present u)
-  bad-tick e = rw e
+module _ (w v u : List ℕ) (ws : List (List ℕ)) (some : length w ≡ 0 → ⊥) (more : length v ≡ 0 → ⊥) where
+  pub bad-tick : numberOf w ≡ Bad → Faulty BadTick ≡ ofWords (led w (led v (led u ws)))
+  bad-tick e = ap (λ (n : Number). withTick n v (led u ws)) (sym e) ∙ two-words w v (led u ws) some more
 
-  pub unknown : (tick : ℕ) → numberOf w ≡ Value tick → namedBy v ≡ Unknown → Faulty UnknownFault ≡ withTick (numberOf w) v (present u)
-  unknown tick e f = rw (e, f)
+  pub unknown : (tick : ℕ) → numberOf w ≡ Value tick → namedBy v ≡ Unknown → Faulty UnknownFault ≡ ofWords (led w (led v (led u ws)))
+  unknown tick e f = rw f at (ap (λ (n : Number). withTick n v (led u ws)) (sym e) ∙ two-words w v (led u ws) some more)
 
-  pub known : (tick : ℕ) (fault : Fault) → numberOf w ≡ Value tick → namedBy v ≡ Is fault → withFault tick fault (present u) ≡ withTick (numberOf w) v (present u)
-  known tick fault e f = rw (e, f)
-
-  by-name : (tick : ℕ) (n : Named) (ws : List (List ℕ)) → withName tick n (present u) ≡ withName tick n (led u ws)
-  by-name tick Unknown ws = refl
-  by-name tick (Is fault) ws = only-id tick fault (needsId fault) u ws refl
-
-  by-tick : (n : Number) (ws : List (List ℕ)) → withTick n v (present u) ≡ withTick n v (led u ws)
-  by-tick Bad ws = refl
-  by-tick (Value tick) ws = by-name tick (namedBy v) ws
-
-  pub three-said : (ws : List (List ℕ)) → (length w ≡ 0 → ⊥) → (length v ≡ 0 → ⊥) → withTick (numberOf w) v (present u) ≡ ofWords (led w (led v (led u ws)))
-  three-said ws some more = by-tick (numberOf w) ws ∙ two-words w v (led u ws) some more
+  pub known : (tick : ℕ) (fault : Fault) → numberOf w ≡ Value tick → namedBy v ≡ Is fault → withFault tick fault (present u) ≡ ofWords (led w (led v (led u ws)))
+  known tick fault e f =
+      only-id tick fault (needsId fault) u ws refl
+      ∙ rw f at (ap (λ (n : Number). withTick n v (led u ws)) (sym e) ∙ two-words w v (led u ws) some more)

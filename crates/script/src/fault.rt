@@ -1,7 +1,6 @@
 // A fault injected by hand: what happens to which plant.
-ghost use mathlib.Core.Bool.{false};
 ghost use mathlib.Core.Path.{_≡_};
-ghost use Rattle.script.specs.Faults.{faultNumber, faultId, needsId, withId, same, crash, restart, reboot, namedBy};
+ghost use Rattle.script.specs.Faults.{faultNumber, faultId, needsId, withId, same, namedBy};
 
 pub enum Fault {
     // Crash a plant; it keeps its state, as if paused.
@@ -102,14 +101,6 @@ pub fn fault_of(word: &[u8]) -> Named
     if is(word, b"reboot") {
         return Named::Is(Fault::Reboot(0));
     }
-    other_fault_of(word)
-}
-
-// The same of a word that names none of these three.
-fn other_fault_of(word: &[u8]) -> Named
-    requires { ⌜ (same (now word) crash ≡ false) × (same (now word) restart ≡ false) × (same (now word) reboot ≡ false) ⌝ }
-    ensures { λ r. ⌜ r ≡ namedBy (now (word .entry)) ⌝ }
-{
     if is(word, b"partition") {
         return Named::Is(Fault::Partition(0));
     }

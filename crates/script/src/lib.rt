@@ -29,7 +29,7 @@ pub enum Judged {
 // The most bytes that a text may have.
 pub const LONGEST: usize = 65536;
 
-// Three words for each of the 7,281 events that so many bytes can hold.
+// Three words for each of the 7,281 events that so many bytes can hold (proofs/Most).
 const HELD: usize = 21843;
 
 // A refusal's number.
@@ -162,8 +162,7 @@ fn read_script(text: &[u8], events: &mut [u64], held: &mut [u64]) -> Script
 
 // Reads a script with one `TICK FAULT` on a line, `#` starting a comment, into the lent words: three
 // for each event, tick, fault and id, sorted by tick. After a look for bytes over 127 it reads each
-// line once, and then sorts: 7,281 events, the most that 65,536 bytes can hold, cost no more in
-// falling order of ticks than in any other (crate order).
+// line once and then sorts, n events in n log n steps at most, whatever their order (crate order).
 pub fn parse_script(text: &[u8], events: &mut [u64]) -> Script
     ensures answer { λ r. ⌜ r ≡ answerOf (now (text .entry)) (length (now (events .entry))) ⌝ }
     ensures words { λ r. ⌜ now (events .exit) ≡ wordsAfter (now (text .entry)) (now (events .entry)) ⌝ }

@@ -4,9 +4,8 @@ use crate::fault::Fault;
 use crate::fault::Named;
 use numeral::Number;
 ghost use mathlib.Core.Path.{_≡_};
-ghost use Rattle.numeral.specs.Reading.{numberOf};
 ghost use Rattle.words.specs.Words.{wordsOf};
-ghost use Rattle.script.specs.Lines.{lineSays, ofWords, withTick, withFault, present};
+ghost use Rattle.script.specs.Lines.{lineSays, ofWords, withFault, present};
 
 // Why a script is refused, in the order in which it is tested.
 pub enum Refusal {
@@ -50,8 +49,8 @@ fn parse_words(line: &[u8]) -> Line
     let found = words::first_words(line);
     let start = found.tick.start;
     let end = found.tick.end;
-    let tick = &line[start..end];
-    if tick.len() == 0 {
+    let word = &line[start..end];
+    if word.len() == 0 {
         return Line::Blank;
     }
     let name_start = found.name.start;
@@ -60,22 +59,15 @@ fn parse_words(line: &[u8]) -> Line
     if name.len() == 0 {
         return Line::Faulty(Refusal::OneWord);
     }
-    let id_start = found.id.start;
-    let id_end = found.id.end;
-    parse_event(tick, name, &line[id_start..id_end])
-}
-
-// What a tick's word, a fault's name and the word after it say, which is empty where there is none.
-fn parse_event(word: &[u8], name: &[u8], id: &[u8]) -> Line
-    ensures { λ r. ⌜ r ≡ withTick (numberOf (now (word .entry))) (now (name .entry)) (present (now (id .entry))) ⌝ }
-{
     let Number::Value(tick) = numeral::read(word) else {
         return Line::Faulty(Refusal::BadTick);
     };
     let Named::Is(fault) = fault::fault_of(name) else {
         return Line::Faulty(Refusal::UnknownFault);
     };
-    parse_id(tick, fault, id)
+    let id_start = found.id.start;
+    let id_end = found.id.end;
+    parse_id(tick, fault, &line[id_start..id_end])
 }
 
 // A fault and the word after its name, which is empty where there is none.

@@ -4,7 +4,7 @@ use lib.ListN.{drop}
 use Rattle.words.specs.Words.{wordsOf}
 use Rattle.script.specs.Lines.{ofWords}
 use Rattle.words.proofs.Cutting.{part, Inside, inside, three-words}
-use Rattle.script.proofs.Saying.{blank, one-word, three-said}
+use Rattle.script.proofs.Saying.{blank, one-word, bad-tick, unknown, known}
 use Rattle.script.proofs.line.parse_words.Statement.{statement}
 use Rattle.script.proofs.line.parse_words.Tie as tie
 
@@ -15,14 +15,14 @@ found c = inside (c .before .before .args .line .now) (c .first-words .result) (
 first-words-requires : tie.Need-first-words-requires
 first-words-requires c κs = tt
 
-sub-tick : tie.Need-sub-tick
-sub-tick c = found c .tick-rises
+sub-word : tie.Need-sub-word
+sub-word c = found c .tick-rises
 
-part-tick-start : tie.Need-part-tick-start
-part-tick-start c = found c .tick-rises
+part-word-start : tie.Need-part-word-start
+part-word-start c = found c .tick-rises
 
-part-tick-end : tie.Need-part-tick-end
-part-tick-end c = found c .tick-ends
+part-word-end : tie.Need-part-word-end
+part-word-end c = found c .tick-ends
 
 returns : tie.Need-returns
 returns c =
@@ -48,43 +48,95 @@ returns-2 c =
     let all = ap ofWords (sym (three-words l w (f .first-words .ensures))) in
     one-word (part l (w .tick)) (part l (w .name)) _ (c .before .before .if1 .left) (c .if2 .taken) ∙ all
 
-sub-parse-event : tie.Need-sub-parse-event
-sub-parse-event c = found (c .before .before .before .before) .id-rises
+read-requires : tie.Need-read-requires
+read-requires c κs = tt
 
-part-parse-event-start : tie.Need-part-parse-event-start
-part-parse-event-start c = found (c .before .before .before .before) .id-rises
+enum-known-tick : tie.Need-enum-known-tick
+enum-known-tick c = c .match .keys1
 
-part-parse-event-end : tie.Need-part-parse-event-end
-part-parse-event-end c = found (c .before .before .before .before) .id-ends
-
-parse-event-requires : tie.Need-parse-event-requires
-parse-event-requires c κs = tt
+enum-told : tie.Need-enum-told
+enum-told c = c .match .keys2
 
 returns-3 : tie.Need-returns-3
 returns-3 c =
-    let i = c .before .before in
-    let f = i .before .before .before .before in
+    let f = c .before .before .before .before .before .before .before in
     let l = f .before .before .args .line .now in
     let w = f .first-words .result in
-    c .parse-event .ensures
-    ∙ (three-said (part l (w .tick)) (part l (w .name)) (part l (w .id)) (wordsOf (drop (w .id .end) l)) (i .before .before .if1 .left) (i .if2 .left)
-    ∙ ap ofWords (sym (three-words l w (f .first-words .ensures))))
+    let all = ap ofWords (sym (three-words l w (f .first-words .ensures))) in
+    bad-tick (part l (w .tick)) (part l (w .name)) (part l (w .id)) (wordsOf (drop (w .id .end) l)) (c .before .before .before .before .before .if1 .left) (c .before .before .before .if2 .left)
+    (sym (c .before .before .read .ensures) ∙ c .enum-told .given .1)
+    ∙ all
+
+fault-of-requires : tie.Need-fault-of-requires
+fault-of-requires c κs = tt
+
+enum-known-fault : tie.Need-enum-known-fault
+enum-known-fault c = c .match2 .keys1
+
+enum-told-2 : tie.Need-enum-told-2
+enum-told-2 c = c .match2 .keys2
+
+returns-4 : tie.Need-returns-4
+returns-4 c =
+    let f = c .before .before .before .before .before .before .before .before .before .before .before in
+    let l = f .before .before .args .line .now in
+    let w = f .first-words .result in
+    let all = ap ofWords (sym (three-words l w (f .first-words .ensures))) in
+    unknown (part l (w .tick)) (part l (w .name)) (part l (w .id)) (wordsOf (drop (w .id .end) l)) (c .before .before .before .before .before .before .before .before .before .if1 .left) (c .before .before .before .before .before .before .before .if2 .left)
+    (c .before .before .before .before .tick .given .0 .0)
+    (sym (c .before .before .before .before .before .before .read .ensures) ∙ c .before .before .before .before .tick .given .1)
+    (sym (c .before .before .fault-of .ensures) ∙ c .enum-told2 .given .1)
+    ∙ all
+
+sub-parse-id : tie.Need-sub-parse-id
+sub-parse-id c = found (c .before .before .before .before .before .before .before .before .before .before .before .before) .id-rises
+
+part-parse-id-start : tie.Need-part-parse-id-start
+part-parse-id-start c = found (c .before .before .before .before .before .before .before .before .before .before .before .before) .id-rises
+
+part-parse-id-end : tie.Need-part-parse-id-end
+part-parse-id-end c = found (c .before .before .before .before .before .before .before .before .before .before .before .before) .id-ends
+
+parse-id-requires : tie.Need-parse-id-requires
+parse-id-requires c κs = tt
+
+returns-5 : tie.Need-returns-5
+returns-5 c =
+    let f = c .before .before .before .before .before .before .before .before .before .before .before .before .before .before in
+    let l = f .before .before .args .line .now in
+    let w = f .first-words .result in
+    let all = ap ofWords (sym (three-words l w (f .first-words .ensures))) in
+    c .parse-id .ensures
+    ∙ (known (part l (w .tick)) (part l (w .name)) (part l (w .id)) (wordsOf (drop (w .id .end) l)) (c .before .before .before .before .before .before .before .before .before .before .before .before .if1 .left) (c .before .before .before .before .before .before .before .before .before .before .if2 .left)
+    (c .before .before .before .before .before .before .before .tick .given .0 .0)
+    (c .before .before .before .fault .given .0 .0)
+    (sym (c .before .before .before .before .before .before .before .before .before .read .ensures) ∙ c .before .before .before .before .before .before .before .tick .given .1)
+    (sym (c .before .before .before .before .before .fault-of .ensures) ∙ c .before .before .before .fault .given .1)
+    ∙ all)
 
 pub parse-words-spec : {M : Type 1} → statement M
 parse-words-spec =
     tie.close
     (tie.spec
     first-words-requires
-    sub-tick
-    part-tick-start
-    part-tick-end
+    sub-word
+    part-word-start
+    part-word-end
     returns
     sub-name
     part-name-start
     part-name-end
     returns-2
-    sub-parse-event
-    part-parse-event-start
-    part-parse-event-end
-    parse-event-requires
-    returns-3)
+    read-requires
+    enum-known-tick
+    enum-told
+    returns-3
+    fault-of-requires
+    enum-known-fault
+    enum-told-2
+    returns-4
+    sub-parse-id
+    part-parse-id-start
+    part-parse-id-end
+    parse-id-requires
+    returns-5)

@@ -1,5 +1,4 @@
 -- `script::fault::Fault::with_id` meets its contract. Assumes nothing.
-use borrow.Author.Needs.{needs}
 use Rattle.script.proofs.fault.Fault.with_id.Statement.{statement}
 use Rattle.script.proofs.fault.Fault.with_id.Tie as tie
 
@@ -37,7 +36,7 @@ returns-5 : tie.Need-returns-5
 returns-5 c = rw (c .enum-told5 .given .1)
 
 returns-6 : tie.Need-returns-6
-returns-6 c = search needs
+returns-6 c = rw (c .enum-told6 .given .1)
 
 pub with-id-spec : {M : Type 1} → statement M
 with-id-spec =
