@@ -3,4 +3,5 @@ pub mod Saying
 pub mod Judging
 pub mod Filling
 pub mod Most
+pub mod Reading
 pub mod Laws

@@ -6,12 +6,13 @@ use fault::Fault;
 use line::Line;
 use line::Refusal;
 ghost use mathlib.Core.Path.{_≡_};
-ghost use Prim.Native.Nat.{_+_, _*_, _≤_};
+ghost use Prim.Native.Nat.{ℕ, _+_, _*_, _/_, _≤_};
+ghost use lib.Dec.{eqb};
 ghost use lib.ListN.{length};
 ghost use Rattle.numeral.specs.Writing.{laid};
 ghost use Rattle.order.specs.Order.{wordsOf};
 ghost use Rattle.script.specs.Lines.{lineSays};
-ghost use Rattle.script.specs.Scripts.{refusalNumber, strayLine, judged, judgedLine, said, eventsIn, eventsOf, answerOf, wordsAfter};
+ghost use Rattle.script.specs.Scripts.{refusalNumber, strayLine, judged, judgedLine, said, eventsIn, eventsOf, answerOf, wordsGiven, wordsAfter};
 
 // What a script says: how many events it has, or why it is refused and at which line.
 pub enum Script {
@@ -28,6 +29,9 @@ pub enum Judged {
 // The most bytes that a text may have.
 pub const LONGEST: usize = 65536;
 
+// Three words for each of the 7,281 events that so many bytes can hold (proofs/Most).
+const HELD: usize = 21843;
+
 // A refusal's number.
 pub fn refusal_number(refusal: Refusal) -> u64
     ensures { λ r. ⌜ r ≡ refusalNumber refusal ⌝ }
@@ -42,6 +46,20 @@ pub fn refusal_number(refusal: Refusal) -> u64
         Refusal::BadId => 7,
         Refusal::NoRoom => 8,
     }
+}
+
+// Whether no byte is over 127. All bytes are gathered before one test, many of them at a time: a loop
+// that could end early would take one after the other.
+fn ascii(text: &[u8]) -> bool
+    ensures { λ b. ⌜ b ≡ eqb (strayLine (now (text .entry))) 0 ⌝ }
+{
+    let mut gathered: u8 = 0;
+    let mut i: usize = 0;
+    while i < text.len() {
+        gathered = gathered | text[i];
+        i += 1;
+    }
+    gathered < 128
 }
 
 // The line of the first byte over 127, or 0 where there is none.
@@ -63,53 +81,30 @@ fn stray_line(text: &[u8]) -> usize
     0
 }
 
-// One line, with `found` events before it and room for `room` in all.
-fn judge_line(line: &[u8], found: usize, room: usize) -> Judged
-    ensures { λ r. ⌜ r ≡ judgedLine room found (lineSays (now (line .entry))) ⌝ }
+// One line, with `found` events before it and room for `room` in all. Its event, if it has one, is
+// written behind them.
+fn read_line(line: &[u8], held: &mut [u64], found: usize, room: usize) -> Judged
+    requires { ⌜ 3 * (found + length (eventsIn (lineSays (now line)))) ≤ length (now held) ⌝ }
+    ensures answer { λ r. ⌜ r ≡ judgedLine room found (lineSays (now (line .entry))) ⌝ }
+    ensures words { λ r. ⌜ ((next : ℕ) → r ≡ Judged.Found next → now (held .exit) ≡ laid (now (held .entry)) (3 * found) (wordsOf (eventsIn (lineSays (now (line .entry)))))) ⌝ }
 {
     match line::parse_line(line) {
         Line::Blank => Judged::Found(found),
-        Line::Event(_, _) => {
-            if found < room {
-                Judged::Found(found + 1)
-            } else {
-                Judged::Stopped(Refusal::NoRoom)
-            }
-        }
+        Line::Event(tick, fault) => take_event(held, found, room, tick, fault),
         Line::Faulty(refusal) => Judged::Stopped(refusal),
     }
 }
 
-// Reads the lines without writing an event: a script that is refused leaves the words as they came.
-fn judge(text: &[u8], room: usize) -> Script
-    ensures { λ r. ⌜ r ≡ judged room 1 0 (said (now (text .entry))) ⌝ }
+// Writes an event behind `found` others, if there is room for it.
+fn take_event(held: &mut [u64], found: usize, room: usize, tick: u64, fault: Fault) -> Judged
+    requires { ⌜ 3 * (found + 1) ≤ length (now held) ⌝ }
+    ensures answer { λ r. ⌜ r ≡ judgedLine room found (Line.Event tick fault) ⌝ }
+    ensures words { λ r. ⌜ ((next : ℕ) → r ≡ Judged.Found next → now (held .exit) ≡ laid (now (held .entry)) (3 * found) (wordsOf (eventsIn (Line.Event tick fault)))) ⌝ }
 {
-    let mut found: usize = 0;
-    let mut line: usize = 1;
-    let mut at: usize = 0;
-    while at <= text.len() {
-        let end = words::find(text, b'\n', at);
-        match judge_line(&text[at..end], found, room) {
-            Judged::Stopped(refusal) => return Script::Refused(refusal, line),
-            Judged::Found(next) => found = next,
-        }
-        line += 1;
-        at = end + 1;
-    }
-    Script::Events(found)
-}
-
-// Writes the event of a line, if it has one, behind the `count` events before it, and answers how
-// many there are then.
-fn put_line(line: &[u8], events: &mut [u64], count: usize) -> usize
-    requires { ⌜ 3 * (count + length (eventsIn (lineSays (now line)))) ≤ length (now events) ⌝ }
-    ensures count { λ r. ⌜ r ≡ count + length (eventsIn (lineSays (now (line .entry)))) ⌝ }
-    ensures words { λ r. ⌜ now (events .exit) ≡ laid (now (events .entry)) (3 * count) (wordsOf (eventsIn (lineSays (now (line .entry))))) ⌝ }
-{
-    match line::parse_line(line) {
-        Line::Blank => count,
-        Line::Event(tick, fault) => put_event(events, count, tick, fault),
-        Line::Faulty(_) => count,
+    if found < room {
+        Judged::Found(put_event(held, found, tick, fault))
+    } else {
+        Judged::Stopped(Refusal::NoRoom)
     }
 }
 
@@ -126,24 +121,48 @@ fn put_event(events: &mut [u64], count: usize, tick: u64, fault: Fault) -> usize
     count + 1
 }
 
-// Writes the events of a script that was accepted, in file order.
-fn fill(text: &[u8], events: &mut [u64])
-    requires { ⌜ 3 * length (eventsOf (said (now text))) ≤ length (now events) ⌝ }
-    ensures { λ _. ⌜ now (events .exit) ≡ laid (now (events .entry)) 0 (wordsOf (eventsOf (said (now (text .entry))))) ⌝ }
+// Reads the lines. The events of a script that is accepted then stand at the front of the held
+// words, in file order.
+fn read_lines(text: &[u8], held: &mut [u64], room: usize) -> Script
+    requires { ⌜ (length (now text) ≤ 65536) × (21843 ≤ length (now held)) ⌝ }
+    ensures answer { λ r. ⌜ r ≡ judged room 1 0 (said (now (text .entry))) ⌝ }
+    ensures words { λ r. ⌜ ((n : ℕ) → r ≡ Script.Events n → now (held .exit) ≡ laid (now (held .entry)) 0 (wordsOf (eventsOf (said (now (text .entry)))))) ⌝ }
 {
-    let mut count: usize = 0;
+    let mut found: usize = 0;
+    let mut line: usize = 1;
     let mut at: usize = 0;
     while at <= text.len() {
         let end = words::find(text, b'\n', at);
-        count = put_line(&text[at..end], events, count);
+        match read_line(&text[at..end], held, found, room) {
+            Judged::Stopped(refusal) => return Script::Refused(refusal, line),
+            Judged::Found(next) => found = next,
+        }
+        line += 1;
         at = end + 1;
     }
+    Script::Events(found)
+}
+
+// The script of a text with no more bytes than may be and none over 127. Its events are held apart
+// until the last line was read, for a refusal leaves the lent words as they came.
+fn read_script(text: &[u8], events: &mut [u64], held: &mut [u64]) -> Script
+    requires { ⌜ (length (now text) ≤ 65536) × (21843 ≤ length (now held)) ⌝ }
+    ensures answer { λ r. ⌜ r ≡ judged (length (now (events .entry)) / 3) 1 0 (said (now (text .entry))) ⌝ }
+    ensures words { λ r. ⌜ now (events .exit) ≡ wordsGiven r (now (text .entry)) (now (events .entry)) ⌝ }
+{
+    let answer = read_lines(text, held, events.len() / 3);
+    let Script::Events(count) = answer else {
+        return answer;
+    };
+    let end = 3 * count;
+    order::copy_front(held, &mut events[..end]);
+    order::sort(events, count, held);
+    answer
 }
 
 // Reads a script with one `TICK FAULT` on a line, `#` starting a comment, into the lent words: three
-// for each event, tick, fault and id, sorted by tick. It goes over the text three times and then
-// sorts: 7,281 events, the most that 65,536 bytes can hold, cost no more in falling order of ticks
-// than in any other (crate order).
+// for each event, tick, fault and id, sorted by tick. After a look for bytes over 127 it reads each
+// line once and then sorts, n events in n log n steps at most, whatever their order (crate order).
 pub fn parse_script(text: &[u8], events: &mut [u64]) -> Script
     ensures answer { λ r. ⌜ r ≡ answerOf (now (text .entry)) (length (now (events .entry))) ⌝ }
     ensures words { λ r. ⌜ now (events .exit) ≡ wordsAfter (now (text .entry)) (now (events .entry)) ⌝ }
@@ -151,15 +170,9 @@ pub fn parse_script(text: &[u8], events: &mut [u64]) -> Script
     if LONGEST < text.len() {
         return Script::Refused(Refusal::TooLong, 0);
     }
-    let stray = stray_line(text);
-    if stray != 0 {
-        return Script::Refused(Refusal::NotAscii, stray);
+    if !ascii(text) {
+        return Script::Refused(Refusal::NotAscii, stray_line(text));
     }
-    let answer = judge(text, events.len() / 3);
-    let Script::Events(count) = answer else {
-        return answer;
-    };
-    fill(text, events);
-    order::sort(events, count);
-    answer
+    let mut held = [0u64; HELD];
+    read_script(text, events, &mut held)
 }

@@ -9,7 +9,6 @@ use lib.Seq.{sets-eq}
 use Rattle.numeral.specs.Writing.{laid}
 use Rattle.order.specs.Order.{wordsOf}
 use Rattle.script.specs.Faults.{faultNumber, faultId}
-use borrow.Author.Needs.{needs}
 use Rattle.script.proofs.put_event.Statement.{statement}
 use Rattle.script.proofs.put_event.Tie as tie
 
@@ -18,40 +17,40 @@ unfolding wordsOf
 three-laid l p a b d h = rw (add-one p, add-two p) (sets-eq (a ∷ b ∷ d ∷ []) l p h ∙ append-assoc (take p l) (a ∷ b ∷ d ∷ []) (drop (p + 3) l))
 
 mul-place : tie.Need-mul-place
-mul-place c = search needs
+mul-place c = omega arith
 
 mul-events : tie.Need-mul-events
-mul-events c = search needs
+mul-events c = omega arith
 
 slice-write-events : tie.Need-slice-write-events
-slice-write-events c = search needs
+slice-write-events c = omega arith
 
 number-requires : tie.Need-number-requires
-number-requires c κs = search needs
+number-requires c κs = tt
 
 add-events : tie.Need-add-events
-add-events c = search needs
+add-events c = omega arith
 
 mul-events-2 : tie.Need-mul-events-2
-mul-events-2 c = search needs
+mul-events-2 c = omega arith
 
 slice-write-events-2 : tie.Need-slice-write-events-2
 slice-write-events-2 c = simp length-set (omega arith)
 
 id-requires : tie.Need-id-requires
-id-requires c κs = search needs
+id-requires c κs = tt
 
 add-events-2 : tie.Need-add-events-2
-add-events-2 c = search needs
+add-events-2 c = omega arith
 
 mul-events-3 : tie.Need-mul-events-3
-mul-events-3 c = search needs
+mul-events-3 c = omega arith
 
 slice-write-events-3 : tie.Need-slice-write-events-3
 slice-write-events-3 c = simp length-set (omega arith)
 
 add-result : tie.Need-add-result
-add-result c = search needs
+add-result c = omega arith
 
 same-length : tie.Need-same-length
 same-length c = simp length-set

@@ -1,16 +1,15 @@
 -- `script::fault::fault_of` meets its contract: the names are tried in the definition's order. Assumes nothing.
 use mathlib.Core.Bool.{true, false}
-use mathlib.Core.Path.{_≡_, sym, _∙_}
+use mathlib.Core.Path.{_≡_, refl, sym, _∙_}
 use Rattle.script.specs.Faults.{same, crash, restart, reboot, partition, heal, healAll, namedBy}
-use borrow.Author.Needs.{needs}
 use Rattle.script.proofs.fault.fault_of.Statement.{statement}
 use Rattle.script.proofs.fault.fault_of.Tie as tie
 
 slice-aggregate-is : tie.Need-slice-aggregate-is
-slice-aggregate-is c = search needs
+slice-aggregate-is c = refl
 
 is-requires : tie.Need-is-requires
-is-requires c κs = search needs
+is-requires c κs = tt
 
 returns : tie.Need-returns
 unfolding namedBy
@@ -20,10 +19,10 @@ returns c =
     rw (e1)
 
 slice-aggregate-is-2 : tie.Need-slice-aggregate-is-2
-slice-aggregate-is-2 c = search needs
+slice-aggregate-is-2 c = refl
 
 is-requires-2 : tie.Need-is-requires-2
-is-requires-2 c κs = search needs
+is-requires-2 c κs = tt
 
 returns-2 : tie.Need-returns-2
 unfolding namedBy
@@ -34,10 +33,10 @@ returns-2 c =
     rw (e1, e2)
 
 slice-aggregate-is-3 : tie.Need-slice-aggregate-is-3
-slice-aggregate-is-3 c = search needs
+slice-aggregate-is-3 c = refl
 
 is-requires-3 : tie.Need-is-requires-3
-is-requires-3 c κs = search needs
+is-requires-3 c κs = tt
 
 returns-3 : tie.Need-returns-3
 unfolding namedBy
@@ -49,10 +48,10 @@ returns-3 c =
     rw (e1, e2, e3)
 
 slice-aggregate-is-4 : tie.Need-slice-aggregate-is-4
-slice-aggregate-is-4 c = search needs
+slice-aggregate-is-4 c = refl
 
 is-requires-4 : tie.Need-is-requires-4
-is-requires-4 c κs = search needs
+is-requires-4 c κs = tt
 
 returns-4 : tie.Need-returns-4
 unfolding namedBy
@@ -65,10 +64,10 @@ returns-4 c =
     rw (e1, e2, e3, e4)
 
 slice-aggregate-is-5 : tie.Need-slice-aggregate-is-5
-slice-aggregate-is-5 c = search needs
+slice-aggregate-is-5 c = refl
 
 is-requires-5 : tie.Need-is-requires-5
-is-requires-5 c κs = search needs
+is-requires-5 c κs = tt
 
 returns-5 : tie.Need-returns-5
 unfolding namedBy
@@ -82,10 +81,10 @@ returns-5 c =
     rw (e1, e2, e3, e4, e5)
 
 slice-aggregate-is-6 : tie.Need-slice-aggregate-is-6
-slice-aggregate-is-6 c = search needs
+slice-aggregate-is-6 c = refl
 
 is-requires-6 : tie.Need-is-requires-6
-is-requires-6 c κs = search needs
+is-requires-6 c κs = tt
 
 returns-6 : tie.Need-returns-6
 unfolding namedBy

@@ -1,5 +1,4 @@
 -- `script::fault::is` meets its contract: two lists of bytes are the same exactly if they are equal. Assumes nothing.
-use borrow.Author.Needs.{needs}
 use borrow.Author.Tests.{eqb-true, eq-eqb}
 use native.Mathlib.Omega.{arith}
 use mathlib.Core.Bool.{Bool, true, false, _&&_}
@@ -38,7 +37,7 @@ decided false true l m e p q = q (same-equal l m e) ∙ sym e
 decided false false l m e p q = sym e
 
 same-requires : tie.Need-same-requires
-same-requires c κs = search needs
+same-requires c κs = tt
 
 returns : tie.Need-returns
 returns c =

@@ -6,7 +6,6 @@ use Rattle.script.specs.Faults.{needsId}
 use Rattle.script.specs.Lines.{withNumber, present}
 use Rattle.script.specs.declared.line.Line.the-variants.{Event}
 use Rattle.script.proofs.Saying.{no-id-needed, id-missing, id-read}
-use borrow.Author.Needs.{needs}
 use Rattle.script.proofs.line.parse_id.Statement.{statement}
 use Rattle.script.proofs.line.parse_id.Tie as tie
 
@@ -14,7 +13,7 @@ needed : (c : tie.Else1) → needsId (c .before .before .before .args .fault) �
 needed c = sym (c .before .needs-id .ensures) ∙ not-false _ (c .if1 .left)
 
 needs-id-requires : tie.Need-needs-id-requires
-needs-id-requires c κs = search needs
+needs-id-requires c κs = tt
 
 returns : tie.Need-returns
 returns c =
@@ -27,13 +26,13 @@ returns-2 c =
     id-missing (a .tick) (a .fault) (a .word .now) (needed (c .before)) (c .if2 .taken)
 
 read-requires : tie.Need-read-requires
-read-requires c κs = search needs
+read-requires c κs = tt
 
 enum-known-id : tie.Need-enum-known-id
-enum-known-id c = search needs
+enum-known-id c = c .match .keys1
 
 enum-told : tie.Need-enum-told
-enum-told c = search needs
+enum-told c = c .match .keys2
 
 returns-3 : tie.Need-returns-3
 returns-3 c =
@@ -43,7 +42,7 @@ returns-3 c =
     ∙ id-read (a .tick) (a .fault) (a .word .now) (c .before .before .read .result) (needed (d .before)) (d .if2 .left) (c .before .before .read .ensures)
 
 with-id-requires : tie.Need-with-id-requires
-with-id-requires c κs = search needs
+with-id-requires c κs = tt
 
 returns-4 : tie.Need-returns-4
 returns-4 c =

@@ -5,7 +5,6 @@ use Rattle.words.specs.Words.{wordsOf}
 use Rattle.script.specs.Lines.{ofWords}
 use Rattle.words.proofs.Cutting.{part, Inside, inside, three-words}
 use Rattle.script.proofs.Saying.{blank, one-word, bad-tick, unknown, known}
-use borrow.Author.Needs.{needs}
 use Rattle.script.proofs.line.parse_words.Statement.{statement}
 use Rattle.script.proofs.line.parse_words.Tie as tie
 
@@ -14,7 +13,7 @@ found : (c : tie.After-first-words) → Inside (c .before .before .args .line .n
 found c = inside (c .before .before .args .line .now) (c .first-words .result) (c .first-words .ensures)
 
 first-words-requires : tie.Need-first-words-requires
-first-words-requires c κs = search needs
+first-words-requires c κs = tt
 
 sub-word : tie.Need-sub-word
 sub-word c = found c .tick-rises
@@ -50,13 +49,13 @@ returns-2 c =
     one-word (part l (w .tick)) (part l (w .name)) _ (c .before .before .if1 .left) (c .if2 .taken) ∙ all
 
 read-requires : tie.Need-read-requires
-read-requires c κs = search needs
+read-requires c κs = tt
 
 enum-known-tick : tie.Need-enum-known-tick
-enum-known-tick c = search needs
+enum-known-tick c = c .match .keys1
 
 enum-told : tie.Need-enum-told
-enum-told c = search needs
+enum-told c = c .match .keys2
 
 returns-3 : tie.Need-returns-3
 returns-3 c =
@@ -69,13 +68,13 @@ returns-3 c =
     ∙ all
 
 fault-of-requires : tie.Need-fault-of-requires
-fault-of-requires c κs = search needs
+fault-of-requires c κs = tt
 
 enum-known-fault : tie.Need-enum-known-fault
-enum-known-fault c = search needs
+enum-known-fault c = c .match2 .keys1
 
 enum-told-2 : tie.Need-enum-told-2
-enum-told-2 c = search needs
+enum-told-2 c = c .match2 .keys2
 
 returns-4 : tie.Need-returns-4
 returns-4 c =
@@ -99,7 +98,7 @@ part-parse-id-end : tie.Need-part-parse-id-end
 part-parse-id-end c = found (c .before .before .before .before .before .before .before .before .before .before .before .before) .id-ends
 
 parse-id-requires : tie.Need-parse-id-requires
-parse-id-requires c κs = search needs
+parse-id-requires c κs = tt
 
 returns-5 : tie.Need-returns-5
 returns-5 c =
