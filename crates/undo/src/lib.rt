@@ -71,23 +71,6 @@ fn sealed(before: Network, after: Network, start: usize) -> Undone
 
 // ---- A send
 
-// The record whose words start at b.
-fn record_of(w: &[u64; queue::WORDS], b: usize) -> queue::Record
-    requires { ⌜ (length (now w) ≡ 1024) × (b + 8 ≤ 1024) ⌝ }
-    ensures { λ r. ⌜ plainRecord r ≡ recordAt (now (w .entry)) b ⌝ }
-{
-    queue::Record {
-        due: w[b],
-        seq: w[b + 1],
-        sent_at: w[b + 2],
-        sort: w[b + 3],
-        origin: w[b + 4],
-        to: w[b + 5],
-        kind: w[b + 6],
-        handle: w[b + 7],
-    }
-}
-
 // Those of the first n records whose number is at most `last` move to the front, in their order; how many they are.
 fn keep_front(w: &mut [u64; queue::WORDS], n: usize, last: u64) -> usize
     requires { ⌜ (length (now w) ≡ 1024) × (n ≤ 128) ⌝ }
@@ -97,7 +80,7 @@ fn keep_front(w: &mut [u64; queue::WORDS], n: usize, last: u64) -> usize
     let mut m: usize = 0;
     let mut i: usize = 0;
     while i < n {
-        let r = record_of(w, i * queue::RECORD_SIZE);
+        let r = queue::record_at(w, i * queue::RECORD_SIZE);
         if r.seq <= last {
             queue::put(w, m * queue::RECORD_SIZE, r);
             m += 1;

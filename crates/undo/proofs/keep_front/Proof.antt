@@ -16,13 +16,11 @@ abbrev μ-loop : tie.MeasureT-loop
 loop-holds : tie.Need-loop-holds Inv-loop μ-loop
 loop-holds c = (omega arith, start _ _)
 
-mul-record-of : tie.Need-mul-record-of Inv-loop μ-loop
-mul-record-of c = omega arith
+mul-record-at : tie.Need-mul-record-at Inv-loop μ-loop
+mul-record-at c = omega arith
 
-record-of-requires : tie.Need-record-of-requires Inv-loop μ-loop
-record-of-requires c κs =
-    let l = c .before .before .loop in
-    (same-size (c .before .before .before .args .w .now) (l .w) (c .before .before .before .args .last) (l .m) (l .i) (l .inv .1) (omega arith) ∙ omega arith, omega arith)
+record-at-requires : tie.Need-record-at-requires Inv-loop μ-loop
+record-at-requires c κs = omega arith
 
 mul-put : tie.Need-mul-put Inv-loop μ-loop
 mul-put c = omega arith
@@ -47,8 +45,8 @@ loop-again c =
     let a = c .before .before .before .before .before .before .args in
     let l = c .before .before .before .before .before .loop in
     ⊎-elim
-    (λ w. (omega arith, rw (w .3, w .4) (move-up (a .w .now) (l .w) (a .last) (l .m) (l .i) (l .inv .1) _ (c .before .before .record-of .ensures) _ (w .0 .taken) (w .2 .ensures))))
-    (λ w. (omega arith, rw (w .1, w .2) (pass-over (a .w .now) (l .w) (a .last) (l .m) (l .i) (l .inv .1) _ (c .before .before .record-of .ensures) (w .0 .left))))
+    (λ w. (omega arith, rw (w .3, w .4) (move-up (a .w .now) (l .w) (a .last) (l .m) (l .i) (l .inv .1) _ (c .before .before .record-at .ensures) _ (w .0 .taken) (w .2 .ensures))))
+    (λ w. (omega arith, rw (w .1, w .2) (pass-over (a .w .now) (l .w) (a .last) (l .m) (l .i) (l .inv .1) _ (c .before .before .record-at .ensures) (w .0 .left))))
     (c .if1 .came)
 
 returns : tie.Need-returns Inv-loop μ-loop
@@ -63,8 +61,8 @@ keep-front-spec =
     Inv-loop
     μ-loop
     loop-holds
-    mul-record-of
-    record-of-requires
+    mul-record-at
+    record-at-requires
     mul-put
     put-requires
     add-m
