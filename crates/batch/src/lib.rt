@@ -30,16 +30,6 @@ const PLACED: u64 = 0x1_0000_0000;
 // The number of a list that is no whole number of messages, or has too many.
 const BROKEN_MESSAGE: u64 = 24;
 
-// A lent row of words. It does nothing: a row of a fixed size is seen to have that size where it is lent as one of any.
-fn seen(words: &[u64]) {}
-
-// The records are 1,024 words.
-fn sized(records: &[u64; 1024])
-    ensures { λ _. ⌜ length (now (records .entry)) ≡ 1024 ⌝ }
-{
-    seen(records);
-}
-
 fn at(number: u64, place: usize) -> u64
     requires { ⌜ (number ≤ 33) × (place ≤ 65536) ⌝ }
     ensures { λ r. ⌜ r ≡ numberAt number place ⌝ }
@@ -156,7 +146,7 @@ pub fn tick(
     if !loaded.fits {
         return at(network_words::ILL_FORMED, 0);
     }
-    sized(records);
+    network_words::whole(records);
     if !network::formed(records, loaded.head) {
         return at(network_words::ILL_FORMED, 0);
     }

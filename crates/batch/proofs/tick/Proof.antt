@@ -79,7 +79,7 @@ whole c =
     let x = c .before .before in
     let a = start x .args in
     leaves (a .sends .now) (a .draws .now) (a .extras .now) (length (a .sends .now) / 6) 0 0 0 (networkIn (a .head .now) (a .records .now))
-    (record { formed = well (else2 x); long = x .before .before .before .before .before .before .before .before .sized .ensures }) _ _ _ (all-sent c)
+    (record { formed = well (else2 x); long = x .before .before .before .before .before .before .before .before .whole .ensures }) _ _ _ (all-sent c)
 
 -- ---- what was due was taken
 
@@ -109,8 +109,8 @@ returns c =
     let a = c .before .before .before .before .before .before .before .before .before .args in
     unread (a .head .now) (a .records .now) (a .sends .now) (a .draws .now) (a .extras .now) (a .now) (a .out .now) (a .told .now) (told-fits _ _ (c .before .before .before .load .ensures) false (not-true _ (c .before .if1 .taken))) _ (c .at .ensures)
 
-sized-requires : tie.Need-sized-requires
-sized-requires c κs = search needs
+whole-requires : tie.Need-whole-requires
+whole-requires c κs = search needs
 
 formed-requires : tie.Need-formed-requires
 formed-requires c κs = search needs
@@ -145,7 +145,7 @@ returns-4 c =
 send-all-requires : tie.Need-send-all-requires
 send-all-requires c κs =
     let b = c .before .before in
-    (c .before .before .before .before .before .before .before .sized .ensures, sym (b .before .before .before .formed .ensures) ∙ not-false _ (b .before .before .if2 .left), omega (arith, b .if4 .left))
+    (c .before .before .before .before .before .before .before .whole .ensures, sym (b .before .before .before .formed .ensures) ∙ not-false _ (b .before .before .if2 .left), omega (arith, b .if4 .left))
 
 at-requires-5 : tie.Need-at-requires-5
 at-requires-5 c κs =
@@ -210,7 +210,7 @@ tick-spec =
     load-requires
     at-requires
     returns
-    sized-requires
+    whole-requires
     formed-requires
     at-requires-2
     returns-2
