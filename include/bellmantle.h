@@ -5,7 +5,7 @@
  * number: bellmantle_parse_script and bellmantle_network_tick, whose refusals tell a place too.
  *
  * Who may hold what: a call reads and writes only what it is lent, keeps nothing when it returns, and takes no memory of its own but
- * the stack (at most 128 KiB, in bellmantle_parse_script). A pointer must be of words that the caller owns and that nobody else
+ * the stack (at most 192 KiB, in bellmantle_parse_script). A pointer must be of words that the caller owns and that nobody else
  * reads or writes during the call; no two of a call's pointers may overlap, and a pointer must not be NULL, be its length 0 or not.
  * Where a length stands behind a pointer it counts elements. Where the length stands in brackets it is fixed: so many words must be
  * there, and nothing can test that. Calls on different words may run at the same time.
