@@ -1,5 +1,5 @@
 -- The sends one after the other: one more of them, where they stop, and what they leave. Assumes nothing.
-use Prim.Native.Nat.{ℕ, zero, suc, _+_, _-_, _*_, _≤_, _<_}
+use Prim.Native.Nat.{ℕ, zero, suc, _+_, _-_, _≤_, _<_}
 use mathlib.Core.Path.{_≡_, refl, sym, ap, _∙_}
 use mathlib.Core.Bool.{true}
 use mathlib.Core.List.{List}
@@ -19,7 +19,7 @@ use Rattle.network.proofs.Maps.{small}
 use Rattle.network.proofs.Calling.{follows}
 use Rattle.network.proofs.Laws.{stays-formed}
 use Rattle.batch.specs.declared.Run.{Run}
-use Rattle.batch.specs.Ticks.{Ran, all, stopped, onward, letterAt, drawnBy, sendsFrom, ranOf}
+use Rattle.batch.specs.Ticks.{all, stopped, onward, letterAt, drawnBy, sendsFrom, ranOf}
 use Rattle.batch.proofs.Using.{send-number}
 
 -- what is left of a list, lent up to its end

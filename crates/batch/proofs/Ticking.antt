@@ -1,6 +1,6 @@
 -- What a tick leaves, by where it ends: at the network's test, at the list's, at a send, at the take, or done. Assumes nothing.
 use Prim.Native.Nat.{ℕ, _*_, _/_, _≤_, _<_}
-use mathlib.Core.Path.{_≡_, refl, sym, ap, _∙_}
+use mathlib.Core.Path.{_≡_, sym, ap, _∙_}
 use mathlib.Core.Bool.{true, false}
 use mathlib.Core.List.{List, [], _∷_}
 use borrow.Author.Tests.{le-leb, lt-leb, eq-eqb, ne-eqb}
@@ -15,7 +15,7 @@ use Rattle.network.specs.Calls.{callAnswer, callNetwork, formAnswer, written}
 use Rattle.network.proofs.Calling.{form-ill, form-well}
 use Rattle.network_words.specs.Layout.{headFits, headWords, networkIn}
 use Rattle.network_words.proofs.Heads.{no-head, a-head}
-use Rattle.batch.specs.Ticks.{messageWords, most, numberAt, Ran, all, stopped, sendsFrom, Tick, refusing, count, taking, afterSends, tested, ticked}
+use Rattle.batch.specs.Ticks.{messageWords, most, numberAt, Ran, all, stopped, sendsFrom, Tick, refusing, taking, afterSends, tested, ticked}
 
 module _ (h r sends draws extras : List ℕ) (now : ℕ) (out told : List ℕ) where
   abbrev whole : Tick

@@ -1,6 +1,6 @@
 -- A send uses no more draws and extras than there are, and refuses with no number over 33. Assumes nothing.
 use Prim.Native.Nat.{ℕ, _+_, _≤_}
-use mathlib.Core.Path.{_≡_, refl, sym, ap, _∙_}
+use mathlib.Core.Path.{_≡_, refl}
 use mathlib.Core.Bool.{Bool, true, false, cond, _&&_}
 use mathlib.Core.List.{List, [], _∷_}
 use native.Mathlib.Omega.{arith}
@@ -12,9 +12,9 @@ use Rattle.chance.specs.Probability.{isOne, isZero, thresholdOf}
 use Rattle.chance.specs.Draw.{byWord, genBool, genBoolInSend}
 use Rattle.chance.specs.declared.Draw.{Draw}
 use Rattle.chance.specs.declared.Draw.the-variants.{Yes, No, Short}
-use Rattle.nights.specs.Net.{Options, Fate, refuse, lose, once, twice, Letter, send}
+use Rattle.nights.specs.Net.{Options, once, twice, Letter, send}
 use Rattle.nights.specs.Draws.{Decided, refusing, isFaulted, extrasFor, dueAt, isTick, isLate, alone, both, afterReplay, afterLoss, decided, fateOf}
-use Rattle.nights.specs.Journal.{Answer, done, refused, Test, verdict, refusal, sendTests, tests}
+use Rattle.nights.specs.Journal.{refused, Test, verdict, refusal, sendTests, tests}
 use Rattle.network.specs.declared.Network.{Network}
 use Rattle.fates.specs.declared.Refusal.{Refusal}
 use Rattle.fates.specs.declared.Refusal.the-variants.{BadLoss, BadReplay, MinOverMean, IllFormed, BadKindOrSort, SentLimit, ShortDraws, ShortExtras, LateTick, Full, ShortOutput, BadJournal, NoJournalRoom, TooFarBack}

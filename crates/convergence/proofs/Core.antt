@@ -7,7 +7,7 @@ use mathlib.Core.Path.{_≡_}
 use Prim.Native.Nat.{ℕ, zero, suc, _<_}
 use lib.Dec.{leb, ltb}
 use lib.ListN.{length, getD}
-use Rattle.snapshots.proofs.Below.{both}
+use Rattle.basis.proofs.Laws.{both}
 use Rattle.convergence.specs.Core.{risesBelow, coreFits}
 
 -- a core that rises below n has ids below n, and one at least

@@ -9,8 +9,9 @@ use lib.Dec.{ltb}
 use lib.ListN.{length}
 use Rattle.snapshots.specs.Below.{countBelow}
 use Rattle.snapshots.specs.Cluster.{Entry, Cluster, sameEntry, plant, entry}
-use Rattle.snapshots.proofs.Below.{both}
-use Rattle.durability.specs.Durability.{participants, quorum, neededCopies, holdsCopy, copiesOf, durable}
+use Rattle.basis.specs.Basis.{quorum}
+use Rattle.basis.proofs.Laws.{both}
+use Rattle.durability.specs.Durability.{participants, neededCopies, holdsCopy, copiesOf, durable}
 
 -- two sets within a third that has fewer members than both together share a member
 shared : (n : ℕ) (f g whole : ℕ → Bool) → ((q : ℕ) → q < n → f q ≡ true → whole q ≡ true) → ((q : ℕ) → q < n → g q ≡ true → whole q ≡ true)

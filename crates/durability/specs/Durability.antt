@@ -1,17 +1,15 @@
 -- Property 6, durability (RULES, "Properties"): copies ≥ max(0, participants + 1 - quorum). Assumes nothing.
 use mathlib.Core.Bool.{Bool, not, _&&_}
-use Prim.Native.Nat.{ℕ, _+_, _-_, _/_}
+use Prim.Native.Nat.{ℕ, _+_, _-_}
 use lib.Dec.{leb, ltb}
 use lib.ListN.{length}
+use Rattle.basis.specs.Basis.{quorum}
 use Rattle.snapshots.specs.Below.{countBelow}
 use Rattle.snapshots.specs.Cluster.{Entry, Cluster, sameEntry, plant, entry}
 
 -- the plants that are not recovering
 unfoldable pub participants : Cluster → ℕ
 participants c = countBelow (c .size) (λ q. not (plant c q .recovering))
-
-abbrev pub quorum : ℕ → ℕ
-quorum n = n / 2 + 1
 
 -- so many copies meet every quorum that the participants could form
 abbrev pub neededCopies : ℕ → ℕ → ℕ

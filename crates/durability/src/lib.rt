@@ -18,7 +18,7 @@ pub fn needed_copies(n: usize, plants: &[u64]) -> usize
     ensures { λ k. ⌜ ((l t : List ℕ) → k ≡ neededCopies n (participants (clusterIn n (now (plants .entry)) l t))) ⌝ }
 {
     let taking = participants(n, plants);
-    let quorum = n / 2 + 1;
+    let quorum = basis::quorum(n);
     if taking + 1 <= quorum {
         return 0;
     }

@@ -11,7 +11,7 @@ use lib.Ieee.Bits.{ofBits-toBits}
 use Rattle.chance.specs.Probability.{goodWord, goodProbability}
 use Rattle.nights.specs.Net.{Options, goodOptions}
 use Rattle.nights.specs.Journal.{done, refused, verdict, optionTests}
-use Rattle.nights.proofs.Kept.{both}
+use Rattle.basis.proofs.Laws.{both}
 use Rattle.fates.specs.declared.NetworkOptions.{NetworkOptions}
 use Rattle.fates.specs.Options.{plainOptions, structOptions, perfectOptions}
 

@@ -6,7 +6,7 @@ ghost use mathlib.Core.List.{[]};
 ghost use Prim.Native.Nat.{_+_, _≤_};
 ghost use lib.Dec.{T};
 ghost use lib.ListN.{length};
-ghost use Rattle.nights.specs.Net.{goodOptions, bit, dues, lostBy, replayedBy, delayedBy};
+ghost use Rattle.nights.specs.Net.{goodOptions, dues, lostBy, replayedBy, delayedBy};
 ghost use Rattle.nights.specs.Draws.{extrasFor, extraAt, alone, both, afterReplay, decided, isFaulted};
 ghost use Rattle.nights.specs.Journal.{verdict, optionTests};
 ghost use Rattle.chance.specs.Probability.{goodProbability};
@@ -343,13 +343,6 @@ pub fn replayed_by(decision: Decision) -> u64
     }
 }
 
-fn one_if(b: bool) -> u64
-    ensures counted { λ r. ⌜ r ≡ bit b ⌝ }
-    ensures small { λ r. ⌜ r ≤ 1 ⌝ }
-{
-    if b { 1 } else { 0 }
-}
-
 pub fn delayed_by(decision: Decision) -> u64
     ensures { λ r. ⌜ r ≡ delayedBy (decisionOf decision .fate) ⌝ }
 {
@@ -361,7 +354,7 @@ pub fn delayed_by(decision: Decision) -> u64
             late,
             draws: _,
             extras: _,
-        } => one_if(late),
+        } => basis::flag_word(late),
         Decision::Twice {
             copy: _,
             original: _,
@@ -369,6 +362,6 @@ pub fn delayed_by(decision: Decision) -> u64
             original_late,
             draws: _,
             extras: _,
-        } => one_if(copy_late) + one_if(original_late),
+        } => basis::flag_word(copy_late) + basis::flag_word(original_late),
     }
 }

@@ -1,7 +1,7 @@
 // The program `faults`: a fault script on standard input, what it says on standard output. What is
 // written is the crate report's to say; here it is only read and written.
 use report::Reported;
-ghost use Prim.Native.Nat.{_≤_};
+ghost use mathlib.Core.Path.{_≡_};
 ghost use lib.ListN.{length};
 ghost use Rattle.faults.specs.Input.{Moved, Filled};
 
@@ -48,14 +48,20 @@ fn read_all(fd: i32, buf: &mut [u8]) -> Input
     Input::Bytes(done)
 }
 
-// One byte more than a script may have is read, so that a longer one is seen to be.
+// Room for a script and one byte more, so that a longer one is seen to be.
+fn room() -> [u8; 65537]
+    ensures { λ r. ⌜ 65537 ≡ length r ⌝ }
+{
+    [0; 65537]
+}
+
 fn main() {
-    let mut text = [0u8; 65537];
+    let mut text = room();
     let Input::Bytes(length) = read_all(libc::STDIN_FILENO, &mut text) else {
         os::fail(b"faults: standard input");
         return;
     };
-    let mut out = [0u8; 135196];
+    let mut out = report::room();
     let Reported::Written(written) = report::report(&text[..length], &mut out) else {
         return;
     };

@@ -3,14 +3,14 @@
 use Prim.Native.Nat.{ℕ}
 use mathlib.Core.Path.{_≡_, refl, sym, ap, ap₂, _∙_, subst}
 use mathlib.Core.Bool.{Bool, true, false, cond}
-use mathlib.Core.List.{List, [], _∷_, map}
+use mathlib.Core.List.{List, [], _∷_}
 use native.Mathlib.Omega.{arith}
 use lib.Dec.{leb}
 use lib.ListN.{length}
 use Rattle.nights.specs.Net.{Options, Network as Plain, fresh, goodOptions, wellFormed}
 use Rattle.nights.specs.Draws.{fateOf}
 use Rattle.nights.specs.Journal.{Answer, done, refused, Call, plain, rewind, mark, State, Step, header, doMark, step, verdict, optionTests}
-use Rattle.nights.specs.Rule.{Entry, standing, Told, start, run, log, ran, logOf, Claim}
+use Rattle.nights.specs.Rule.{Entry, standing, Told, start, run, log, ran, Claim}
 use Rattle.nights.proofs.Kept.{fresh-formed}
 use Rattle.nights.proofs.Steps.{refused-stays, step-keeps}
 use Rattle.nights.proofs.Claim.{claim-of-the-rules}
@@ -20,8 +20,8 @@ use Rattle.network.specs.Forms.{plainOf, structOf, isFormed}
 use Rattle.network.specs.Calls.{settling, firstBy, firstNetwork}
 use Rattle.network.proofs.Maps.{plain-formed, plain-of-struct, struct-formed}
 use Rattle.fates.proofs.OptionForms.{refused-bad}
-use Rattle.journal.specs.Calls.{stateOf, stepOf, answerOf, wordsAfter, networkAfter, markAnswer, markWords}
-use Rattle.journal.specs.Night.{Held, Turn, Settled, Marked, Made, Night, endOf, callsOf, entriesOf, evening, morning, Demand3}
+use Rattle.journal.specs.Calls.{stateOf, stepOf, networkAfter}
+use Rattle.journal.specs.Night.{Held, Turn, Settled, Marked, Made, Night, endOf, callsOf, entriesOf, evening, Demand3}
 
 -- what the host holds is a state of the plain form
 record Same (h : Held) (s : State) : Type 0 where

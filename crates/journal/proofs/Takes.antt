@@ -10,7 +10,8 @@ use lib.ListN.{length, take, drop, set, length-append, length-drop}
 use lib.Seq.{take-at, length-take-le, sets-eq}
 use Rattle.nights.specs.Record.{Record, wordsOf}
 use Rattle.nights.specs.Net.{take as takes, keep, isDue, effect}
-use Rattle.nights.specs.Journal.{Answer, done, refused, overwrite, undoWords}
+use Rattle.basis.specs.Basis.{laid}
+use Rattle.nights.specs.Journal.{Answer, done, refused, undoWords}
 use Rattle.nights.proofs.Order.{length-split}
 use Rattle.nights.proofs.Undo.{length-wordsOf}
 use Rattle.queue.proofs.Inserting.{length-recs}
@@ -44,7 +45,7 @@ closed a n x y h =
     rw (add-one n) (ap (λ (l : List ℕ). take (n + 2) l) (sets-eq (x ∷ y ∷ []) a n h) ∙ take-at (take n a ++ (x ∷ y ∷ [])) (drop (n + 2) a) (n + 2) q)
 
 -- and words written at the front of an output
-pub over-front : (out u : List ℕ) → overwrite out 0 u ≡ u ++ drop (length u) out
+pub over-front : (out u : List ℕ) → laid out 0 u ≡ u ++ drop (length u) out
 over-front out u = let z : 0 + length u ≡ length u = omega arith in rw z
 
 -- ---- the take

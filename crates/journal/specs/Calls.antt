@@ -3,7 +3,7 @@
 use Prim.Native.Nat.{ℕ}
 use mathlib.Core.Bool.{cond}
 use mathlib.Core.List.{List}
-use Rattle.nights.specs.Net.{Options, Network as Plain, send, take, choose, fresh}
+use Rattle.nights.specs.Net.{Options, send, take, choose, fresh}
 use Rattle.nights.specs.Draws.{fateOf}
 use Rattle.nights.specs.Journal.{Answer, refused, Call, plain, mark, State, Step, step}
 use Rattle.network.specs.declared.Network.{Network}

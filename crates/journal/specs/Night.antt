@@ -7,7 +7,7 @@ use mathlib.Core.List.{List, [], _∷_, map}
 use Rattle.nights.specs.Net.{Options}
 use Rattle.nights.specs.Draws.{fateOf}
 use Rattle.nights.specs.Journal.{Answer, Call, plain, rewind, mark}
-use Rattle.nights.specs.Rule.{Entry, standing, reached, Told, ran, logOf, Claim}
+use Rattle.nights.specs.Rule.{Entry, standing, Told, ran, logOf, Claim}
 use Rattle.network.specs.declared.Network.{Network}
 use Rattle.network.specs.Forms.{plainOf, isFormed}
 use Rattle.network.specs.Calls.{firstNetwork}

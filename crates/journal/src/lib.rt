@@ -31,11 +31,11 @@ pub fn mark(journal: &mut [u64]) -> Settled
     ensures answer { λ r. ⌜ settledOf r ≡ markAnswer (now (journal .entry)) ⌝ }
     ensures journal { λ _. ⌜ now (journal .exit) ≡ markWords (now (journal .entry)) ⌝ }
 {
-    if journal.len() < undo::HEADER {
+    if journal.len() < ledger::HEADER {
         return Settled::Refused(Refusal::NoJournalRoom);
     }
     journal[0] = 0;
-    journal[1] = undo::HEADER as u64;
+    journal[1] = ledger::HEADER as u64;
     Settled::Done
 }
 
@@ -50,7 +50,7 @@ pub fn set_options(network: Network, options: NetworkOptions, journal: &mut [u64
     let Settled::Done = answer else {
         return next;
     };
-    let room = ledger::room_for(journal, undo::OPTIONS_WORDS);
+    let room = ledger::room_for(journal, ledger::OPTIONS_WORDS);
     let Settled::Done = room else {
         return Next {
             network: network,
@@ -90,14 +90,14 @@ pub fn send(
     else {
         return sent;
     };
-    let Settled::Refused(refusal) = ledger::room_for(journal, undo::SEND_WORDS) else {
+    let Settled::Refused(refusal) = ledger::room_for(journal, ledger::SEND_WORDS) else {
         let record = [
             network.seq,
             network.lost,
             network.replayed,
             network.delayed,
-            undo::SEND,
-            undo::SEND_WORDS as u64,
+            ledger::SEND,
+            ledger::SEND_WORDS as u64,
         ];
         ledger::append(journal, &record[..]);
         return sent;
@@ -126,11 +126,11 @@ pub fn take_due(network: Network, now: u64, out: &mut [u64], journal: &mut [u64]
     if out.len() < size {
         return refused_take(network, Refusal::ShortOutput);
     }
-    let Settled::Refused(refusal) = ledger::room_for(journal, size + undo::TAKE_WORDS) else {
+    let Settled::Refused(refusal) = ledger::room_for(journal, size + ledger::TAKE_WORDS) else {
         ledger::write_at(out, 0, &record[..size]);
-        record[size] = undo::TAKE;
-        record[size + 1] = (size + undo::TAKE_WORDS) as u64;
-        ledger::append(journal, &record[..size + undo::TAKE_WORDS]);
+        record[size] = ledger::TAKE;
+        record[size + 1] = (size + ledger::TAKE_WORDS) as u64;
+        ledger::append(journal, &record[..size + ledger::TAKE_WORDS]);
         return taken;
     };
     refused_take(network, refusal)

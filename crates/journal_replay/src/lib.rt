@@ -17,31 +17,28 @@ use network_replay::Done;
 ghost use Prim.Native.Nat.{_+_, _≤_};
 ghost use lib.ListN.{length};
 
-// Where the tally has each outcome that is none of a network's: the refusals 31 to 33 stand from 0 on.
-const MARKED: usize = 3;
+// Where each outcome is counted that is none of a network's, behind those: the refusals 31 to 33 stand from REFUSED on.
+const WORD_PUT: usize = network_replay::COUNTS;
 
-const REWOUND_NONE: usize = 4;
+const MARKED: usize = 29;
 
-const REWOUND_ONE: usize = 5;
+const REWOUND_NONE: usize = 30;
 
-const REWOUND_MORE: usize = 6;
+const REWOUND_ONE: usize = 31;
 
-const OVER_TAKE: usize = 7;
+const REWOUND_MORE: usize = 32;
 
-const OVER_OPTIONS: usize = 8;
+const OVER_TAKE: usize = 33;
 
-const WORD_PUT: usize = 9;
+const OVER_OPTIONS: usize = 34;
 
-const FORGED_REFUSED: usize = 10;
+const FORGED_REFUSED: usize = 35;
 
-const FORGED_REWOUND: usize = 11;
+const FORGED_REWOUND: usize = 36;
 
-// How often each outcome was met.
-pub struct Tally {
-    // The calls, those answered otherwise, and what is met without a journal.
-    pub plain: network_replay::Tally,
-    pub met: [u64; 12],
-}
+const REFUSED: usize = 37;
+
+pub const COUNTS: usize = 40;
 
 // ---- The calls
 
@@ -177,7 +174,7 @@ fn answered(network: Network, case: [u64; 22], words: &mut [u64], room: usize) -
 fn hash_journal(words: &[u64], room: usize) -> u64
     requires { ⌜ room ≤ length (now words) ⌝ }
 {
-    network_replay::hash_words(&words[..room], network_replay::FIRST_HASH)
+    tape::hash_words(&words[..room], tape::FIRST_HASH)
 }
 
 // Whether words were put into the journal, after a call.
@@ -191,12 +188,10 @@ fn forged_after(forged: bool, number: u64) -> bool {
     forged
 }
 
-// ---- The tally
+// ---- What is counted
 
 // Which outcome a rewind over so many calls met.
-fn rewind_outcome(k: u64) -> usize
-    ensures { λ r. ⌜ r ≤ 11 ⌝ }
-{
+fn rewind_outcome(k: u64) -> usize {
     if k == 0 {
         return REWOUND_NONE;
     }
@@ -206,135 +201,68 @@ fn rewind_outcome(k: u64) -> usize
     REWOUND_MORE
 }
 
-impl Tally {
-    pub fn new() -> Tally {
-        let plain = network_replay::Tally::new();
-        Tally {
-            plain,
-            met: [0u64; 12],
-        }
-    }
+// Counts a call that the journal refuses.
+fn meet_refusal(counts: &mut [u64], number: u64, forged_rewind: bool) {
+    tape::count_if(counts, number == 31, REFUSED);
+    tape::count_if(counts, number == 32, REFUSED + 1);
+    tape::count_if(counts, number == 33, REFUSED + 2);
+    tape::count_if(counts, number == 31 && forged_rewind, FORGED_REFUSED);
+}
 
-    // With one difference more.
-    fn differs(self) -> Tally {
-        let mut next = self;
-        let plain = next.plain.differs();
-        next.plain = plain;
-        next
-    }
+// Counts a rewind that is done. It went over a take if messages are no longer delivered, over a change of options if they are others.
+fn meet_rewind(counts: &mut [u64], before: Network, after: Network, k: u64, forged: bool) {
+    let old = network_replay::hash_options(before.options);
+    let new = network_replay::hash_options(after.options);
+    tape::count(counts, rewind_outcome(k));
+    tape::count_if(counts, after.delivered < before.delivered, OVER_TAKE);
+    tape::count_if(counts, old != new, OVER_OPTIONS);
+    tape::count_if(counts, forged && k != 0, FORGED_REWOUND);
+}
 
-    fn meets(self, place: usize) -> Tally
-        requires { ⌜ place ≤ 11 ⌝ }
-    {
-        let mut next = self;
-        let count = next.met[place];
-        next.met[place] = network_replay::one_more(count);
-        next
+// Counts a call that only a journal has, and that is done.
+fn meet_in_journal(
+    counts: &mut [u64],
+    before: Network,
+    after: Network,
+    case: [u64; 22],
+    forged: bool,
+) {
+    if case[0] == 8 {
+        tape::count(counts, WORD_PUT);
+        return;
     }
+    if case[0] == 9 {
+        tape::count(counts, MARKED);
+        return;
+    }
+    meet_rewind(counts, before, after, case[6], forged);
+}
 
-    fn meets_if(self, met: bool, place: usize) -> Tally
-        requires { ⌜ place ≤ 11 ⌝ }
-    {
-        if met {
-            return self.meets(place);
-        }
-        self
+// Whether an expected outcome is one that a network has too.
+fn is_plain(case: [u64; 22]) -> bool {
+    let refusal = case[1];
+    if refusal == 0 {
+        return case[0] < 8;
     }
+    if refusal < 31 {
+        return true;
+    }
+    33 < refusal
+}
 
-    // With a call that a network has too, or one of its refusals.
-    fn met_plainly(self, before: Network, after: Network, case: [u64; 22]) -> Tally {
-        let mut next = self;
-        let plain = next.plain.met_by(before, after, case);
-        next.plain = plain;
-        next
+// Counts a call, which made a network of the one before.
+fn meet(counts: &mut [u64], before: Network, after: Network, case: [u64; 22], forged: bool) {
+    if is_plain(case) {
+        network_replay::meet(counts, before, after, case);
+        return;
     }
-
-    // With one call more.
-    fn counts(self) -> Tally {
-        let mut next = self;
-        let mut plain = next.plain;
-        plain.calls = network_replay::one_more(plain.calls);
-        next.plain = plain;
-        next
+    tape::count(counts, network_replay::CASES);
+    if case[1] == 0 {
+        meet_in_journal(counts, before, after, case, forged);
+        return;
     }
-
-    // With a call that the journal refuses.
-    fn refused(self, number: u64, is_rewind: bool, forged: bool) -> Tally
-        requires { ⌜ (31 ≤ number) × (number ≤ 33) ⌝ }
-    {
-        let met = self.meets((number - 31) as usize);
-        if number == 31 {
-            if is_rewind {
-                return met.meets_if(forged, FORGED_REFUSED);
-            }
-        }
-        met
-    }
-
-    // With a rewind that is done. It went over a take if messages are no longer delivered, over a change of options if they are others.
-    fn rewound(self, before: Network, after: Network, k: u64, forged: bool) -> Tally {
-        let over_options = network_replay::hash_options(before.options)
-            != network_replay::hash_options(after.options);
-        let mut next = self.meets(rewind_outcome(k));
-        next = next.meets_if(after.delivered < before.delivered, OVER_TAKE);
-        next = next.meets_if(over_options, OVER_OPTIONS);
-        if k == 0 {
-            return next;
-        }
-        next.meets_if(forged, FORGED_REWOUND)
-    }
-
-    // With a call that only a journal has, and that is done.
-    fn met_in_journal(
-        self,
-        before: Network,
-        after: Network,
-        case: [u64; 22],
-        forged: bool,
-    ) -> Tally {
-        if case[0] == 8 {
-            return self.meets(WORD_PUT);
-        }
-        if case[0] == 9 {
-            return self.meets(MARKED);
-        }
-        self.rewound(before, after, case[6], forged)
-    }
-
-    // With one call more, which made this network of the one before.
-    fn met_by(self, before: Network, after: Network, case: [u64; 22], forged: bool) -> Tally {
-        let refusal = case[1];
-        if 31 <= refusal {
-            if refusal <= 33 {
-                return self.counts().refused(refusal, case[0] == 10, forged);
-            }
-        }
-        if refusal != 0 {
-            return self.met_plainly(before, after, case);
-        }
-        if case[0] < 8 {
-            return self.met_plainly(before, after, case);
-        }
-        self.counts().met_in_journal(before, after, case, forged)
-    }
-
-    // With one call more on the network before, whose journal is or is not the expected one.
-    fn judged(
-        self,
-        before: Network,
-        done: Done,
-        case: [u64; 22],
-        forged: bool,
-        same: bool,
-    ) -> Tally {
-        let met = self.met_by(before, done.network, case, forged);
-        if same {
-            if network_replay::agrees(done, case) {
-                return met;
-            }
-        }
-        met.differs()
-    }
+    let rewinds = case[0] == 10;
+    meet_refusal(counts, case[1], rewinds && forged);
 }
 
 // ---- The list
@@ -361,10 +289,9 @@ fn size_of(number: u64) -> usize
     8
 }
 
-// What is carried on from call to call, beside the lent words: the tally, the network, how many of the words are the journal,
+// What is carried on from call to call, beside the lent words: the network, how many of the words are the journal,
 // whether some of its words were put, and where the next call begins.
 pub struct Turn {
-    pub tally: Tally,
     pub network: Network,
     pub room: usize,
     pub forged: bool,
@@ -379,15 +306,15 @@ fn replay_call(
     words: &mut [u64],
     room: usize,
     forged: bool,
-    tally: Tally,
+    counts: &mut [u64],
 ) -> Turn
     requires { ⌜ (at + 8 ≤ length (now list)) × (room ≤ length (now words)) ⌝ }
     ensures { λ r. ⌜ (at + 8 ≤ r .next) × (r .next ≤ length (now (list .entry))) × (r .room ≤ length (now (words .entry))) ⌝ }
 {
-    let size = size_of(network_replay::word(list, at));
+    let size = size_of(tape::word(list, at));
     if list.len() - at < 8 * size + 8 {
+        tape::count(counts, network_replay::DIFFERING);
         return Turn {
-            tally: tally.differs(),
             network,
             room,
             forged,
@@ -395,15 +322,16 @@ fn replay_call(
         };
     }
     let case = network_replay::case_at(list, at, size);
-    let hash = network_replay::word(list, at + 8 * size);
+    let hash = tape::word(list, at + 8 * size);
     let next = at + 8 * size + 8;
     let done = answered(network, case, words, room);
     let room_now = room_after(room, case, words.len());
     let forged_now = forged_after(forged, case[0]);
-    let found = hash_journal(words, room_now);
     let after = done.network;
+    meet(counts, network, after, case, forged_now);
+    let same = hash_journal(words, room_now) == hash;
+    tape::count_if(counts, !agrees(done, case, same), network_replay::DIFFERING);
     Turn {
-        tally: tally.judged(network, done, case, forged_now, found == hash),
         network: after,
         room: room_now,
         forged: forged_now,
@@ -411,9 +339,16 @@ fn replay_call(
     }
 }
 
+// Whether a call gave what is expected, and the journal is the expected one.
+fn agrees(done: Done, case: [u64; 22], same: bool) -> bool {
+    if same {
+        return network_replay::agrees(done, case);
+    }
+    false
+}
+
 // Replays a list, from a perfect network and a journal of no words on, with words lent for the journal.
-pub fn replay(list: &[u8], words: &mut [u64]) -> Tally {
-    let mut tally = Tally::new();
+pub fn replay(list: &[u8], words: &mut [u64], counts: &mut [u64]) {
     let first = Network::new(NetworkOptions::perfect());
     let mut network = first.network;
     let mut room: usize = 0;
@@ -421,14 +356,13 @@ pub fn replay(list: &[u8], words: &mut [u64]) -> Tally {
     let mut at: usize = 0;
     while at < list.len() {
         if list.len() - at < 8 {
-            return tally.differs();
+            tape::count(counts, network_replay::DIFFERING);
+            return;
         }
-        let done = replay_call(list, at, network, words, room, forged, tally);
-        tally = done.tally;
+        let done = replay_call(list, at, network, words, room, forged, counts);
         network = done.network;
         room = done.room;
         forged = done.forged;
         at = done.next;
     }
-    tally
 }

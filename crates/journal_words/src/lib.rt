@@ -112,8 +112,8 @@ pub fn send(
         } => {
             write(sent.network, head, records);
             *told = [
-                network_words::flag_word(lost),
-                network_words::flag_word(replayed),
+                basis::flag_word(lost),
+                basis::flag_word(replayed),
                 drawn as u64,
                 added as u64,
             ];

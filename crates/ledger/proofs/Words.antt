@@ -9,8 +9,9 @@ use borrow.Author.Tests.{le-leb, lt-leb, leb-true, leb-false}
 use lib.Dec.{leb}
 use lib.ListN.{length, take, drop, getD, set, length-append, length-take, length-drop, List·getD-append}
 use lib.Seq.{getD-take, take-length, paste}
-use Rattle.nights.specs.Journal.{done, refused, held, used, overwrite, logged, goodHeader, verdict, journalTests}
-use Rattle.nights.proofs.Kept.{both}
+use Rattle.basis.specs.Basis.{laid}
+use Rattle.basis.proofs.Laws.{both}
+use Rattle.nights.specs.Journal.{done, refused, held, used, logged, goodHeader, verdict, journalTests}
 use Rattle.fates.proofs.Failing.{first, second}
 
 -- half of it, rounded down
@@ -98,18 +99,18 @@ headed (x ∷ []) a b h = absurd (omega arith)
 headed (x ∷ y ∷ w) a b h = refl
 
 -- a list written over the words, once all of it is
-pub pasted : (w r : List ℕ) (at : ℕ) → paste w at r (length r) ≡ overwrite w at r
+pub pasted : (w r : List ℕ) (at : ℕ) → paste w at r (length r) ≡ laid w at r
 pasted w r at = rw (take-length r, append-assoc (take at w) r (drop (at + length r) w))
 
 -- a record written behind the others leaves word 0, and as many words as there were
 module _ (w r : List ℕ) (g : goodHeader w ≡ true) (room : used w + length r ≤ length w) where
-  pub held-stays : getD (overwrite w (used w) r) 0 0 ≡ held w
+  pub held-stays : getD (laid w (used w) r) 0 0 ≡ held w
   held-stays =
       let h : Header w = good-header w g in
       let z : 0 < used w = omega (arith, h .low) in
       List·getD-append (take (used w) w) _ 0 0 (simp length-take (omega (arith, h .low, h .long))) ∙ getD-take (used w) w 0 0 z
 
-  pub length-over : length (overwrite w (used w) r) ≡ length w
+  pub length-over : length (laid w (used w) r) ≡ length w
   length-over =
       omega (
         arith,
@@ -119,8 +120,8 @@ module _ (w r : List ℕ) (g : goodHeader w ≡ true) (room : used w + length r 
         length-drop (used w + length r) w,
       )
 
-  pub logged-by : (v : List ℕ) → v ≡ overwrite w (used w) r → set (set v 0 (getD v 0 0 + 1)) 1 (used w + length r) ≡ logged w r
+  pub logged-by : (v : List ℕ) → v ≡ laid w (used w) r → set (set v 0 (getD v 0 0 + 1)) 1 (used w + length r) ≡ logged w r
   unfolding logged
   logged-by v e =
       let h : Header w = good-header w g in
-      rw (e, held-stays) (headed (overwrite w (used w) r) (held w + 1) (used w + length r) (omega (arith, length-over, h .long)))
+      rw (e, held-stays) (headed (laid w (used w) r) (held w + 1) (used w + length r) (omega (arith, length-over, h .long)))

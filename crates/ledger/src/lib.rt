@@ -1,5 +1,5 @@
-// The journal's words: whether their header is good, whether a record has room, a record put behind the others, and the record of a
-// change of options.
+// The journal's words: the sorts and lengths of records, whether the header is good, whether a record has room, a record put behind the
+// others, and the record of a change of options.
 use fates::NetworkOptions;
 use fates::Refusal;
 use fates::Settled;
@@ -7,27 +7,45 @@ ghost use mathlib.Core.Path.{_≡_};
 ghost use mathlib.Core.Bool.{true};
 ghost use Prim.Native.Nat.{_+_, _≤_};
 ghost use lib.ListN.{length};
-ghost use Rattle.nights.specs.Net.{bit, goodOptions};
-ghost use Rattle.nights.specs.Journal.{used, overwrite, logged, goodHeader, verdict, journalTests};
+ghost use Rattle.basis.specs.Basis.{laid};
+ghost use Rattle.nights.specs.Net.{goodOptions};
+ghost use Rattle.nights.specs.Journal.{used, logged, goodHeader, verdict, journalTests};
 ghost use Rattle.fates.specs.Answers.{settledOf};
 ghost use Rattle.fates.specs.Options.{plainOptions};
 ghost use Rattle.ledger.specs.Records.{optionsRecord};
+
+// The sorts of a record, which stand before its length at its end.
+pub const SEND: u64 = 1;
+
+pub const TAKE: u64 = 2;
+
+pub const OPTIONS: u64 = 3;
+
+// The words of a send's record, of an options record, and of a take's record beside the records taken.
+pub const SEND_WORDS: usize = 6;
+
+pub const OPTIONS_WORDS: usize = 7;
+
+pub const TAKE_WORDS: usize = 2;
+
+// The words before the first record: the calls held, and the words used.
+pub const HEADER: usize = 2;
 
 // Whether words 0 and 1 can head a journal of so many words: over whole numbers, twice the calls are at most the words used by them.
 pub fn header_good(journal: &[u64]) -> bool
     ensures { λ b. ⌜ b ≡ goodHeader (now (journal .entry)) ⌝ }
 {
-    if journal.len() < undo::HEADER {
+    if journal.len() < HEADER {
         return false;
     }
     let used = journal[1];
-    if used < undo::HEADER as u64 {
+    if used < HEADER as u64 {
         return false;
     }
     if (journal.len() as u64) < used {
         return false;
     }
-    journal[0] <= (used - undo::HEADER as u64) / 2
+    journal[0] <= (used - HEADER as u64) / 2
 }
 
 // What a journal answers to a record of so many words.
@@ -46,7 +64,7 @@ pub fn room_for(journal: &[u64], size: usize) -> Settled
 // Words written over those that stand from a place on.
 pub fn write_at(words: &mut [u64], at: usize, what: &[u64])
     requires { ⌜ at + length (now what) ≤ length (now words) ⌝ }
-    ensures { λ _. ⌜ now (words .exit) ≡ overwrite (now (words .entry)) at (now (what .entry)) ⌝ }
+    ensures { λ _. ⌜ now (words .exit) ≡ laid (now (words .entry)) at (now (what .entry)) ⌝ }
 {
     let mut i: usize = 0;
     while i < what.len() {
@@ -68,7 +86,7 @@ pub fn append(journal: &mut [u64], what: &[u64])
 }
 
 // The record of a change of options, from the good options before it.
-pub fn options_record(old: NetworkOptions) -> [u64; undo::OPTIONS_WORDS]
+pub fn options_record(old: NetworkOptions) -> [u64; OPTIONS_WORDS]
     requires { ⌜ goodOptions (plainOptions old) ≡ true ⌝ }
     ensures { λ r. ⌜ r ≡ optionsRecord (plainOptions old) ⌝ }
 {
@@ -77,14 +95,8 @@ pub fn options_record(old: NetworkOptions) -> [u64; undo::OPTIONS_WORDS]
         chance::word_of(old.packet_replay_probability),
         old.one_way_delay_min,
         old.one_way_delay_mean,
-        flag_word(old.fault_client_messages),
-        undo::OPTIONS,
-        undo::OPTIONS_WORDS as u64,
+        basis::flag_word(old.fault_client_messages),
+        OPTIONS,
+        OPTIONS_WORDS as u64,
     ]
-}
-
-fn flag_word(flag: bool) -> u64
-    ensures { λ r. ⌜ r ≡ bit flag ⌝ }
-{
-    if flag { 1 } else { 0 }
 }

@@ -9,7 +9,7 @@ use native.Mathlib.Numerals.{add-one}
 use borrow.Author.Tests.{lt-leb, ne-eqb, eqb-true}
 use lib.Dec.{leb, eqb}
 use lib.ListN.{length}
-use Rattle.plants.specs.Faults.{counted}
+use Rattle.basis.specs.Basis.{bit}
 use Rattle.lineup.specs.Core.{idsFrom, those, tally}
 use Rattle.lineup.proofs.Tallies.{tally-cons, those-append}
 
@@ -49,7 +49,7 @@ module _ (n : ℕ) where
   none-before a zero h = refl
   none-before a (suc k) h = rw (ne-eqb n a (omega arith)) (none-before (suc a) k (omega arith))
 
-once-step : (b : Bool) (n : ℕ) → (b ≡ true → n ≡ 0) → n ≤ 1 → counted b + n ≤ 1
+once-step : (b : Bool) (n : ℕ) → (b ≡ true → n ≡ 0) → n ≤ 1 → bit b + n ≤ 1
 once-step true n f h = let z = f refl in omega arith
 once-step false n f h = omega arith
 

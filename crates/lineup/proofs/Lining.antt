@@ -8,9 +8,10 @@ use borrow.Author.Tests.{leb-true}
 use lib.Dec.{leb, eqb}
 use lib.ListN.{length, take, drop, getD, length-append, length-drop, length-take, drop-of-length-le}
 use lib.Seq.{take-at, take-all, take-append-le, drop-append-le}
-use Rattle.plants.proofs.Testing.{both}
+use Rattle.basis.specs.Basis.{quorum}
+use Rattle.basis.proofs.Laws.{both}
 use Rattle.lineup.specs.Shuffle.{shuffled, picksWithin}
-use Rattle.lineup.specs.Core.{quorum, idsFrom, those, tally, isHealthy, isRecovering, candidates, staying, filler, lineUp, flagsFit, healthyCount}
+use Rattle.lineup.specs.Core.{idsFrom, those, tally, isHealthy, isRecovering, candidates, staying, filler, lineUp, flagsFit, healthyCount}
 use Rattle.lineup.proofs.Tallies.{Permutation, tally-append, tally-parts, tally-split, same-length}
 use Rattle.lineup.proofs.Ids.{length-ids, ids-below}
 use Rattle.lineup.proofs.Shuffling.{shuffle-permutes}

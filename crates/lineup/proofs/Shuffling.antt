@@ -9,8 +9,8 @@ use borrow.Author.Tests.{leb-true}
 use lib.Dec.{leb}
 use lib.ListN.{length, drop, getD, set, length-set}
 use lib.Seq.{getD-set-same, getD-set-other}
-use Rattle.plants.proofs.Testing.{both}
-use Rattle.plants.specs.Faults.{counted}
+use Rattle.basis.specs.Basis.{bit}
+use Rattle.basis.proofs.Laws.{both}
 use Rattle.lineup.specs.Shuffle.{swapped, shuffledFrom, shuffled, picksWithin}
 use Rattle.lineup.proofs.Tallies.{Permutation, tally-set}
 
@@ -23,7 +23,7 @@ swap-permutes l i j h k test =
     let a = set l i (getD l j 0) in
     let f = tally-set test l i (getD l j 0) h in
     let g = tally-set test a j (getD l i 0) (simp length-set k) in
-    let e : counted (test (getD a j 0)) ≡ counted (test (getD l j 0)) = ap (λ (x : ℕ). counted (test x)) (still-there l i j h) in
+    let e : bit (test (getD a j 0)) ≡ bit (test (getD l j 0)) = ap (λ (x : ℕ). bit (test x)) (still-there l i j h) in
     omega arith
 
 permutes-from : (k : ℕ) (picks l : List ℕ) → k < length l → picksWithin k picks ≡ true → Permutation (shuffledFrom k picks l) l

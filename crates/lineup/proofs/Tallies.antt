@@ -10,27 +10,24 @@ use borrow.Author.Tests.{leb-false}
 use lib.Dec.{leb}
 use lib.ListN.{length, take, drop, getD, set, take-append-drop, length-append}
 use lib.Seq.{take-suc}
-use Rattle.plants.specs.Faults.{counted}
+use Rattle.basis.specs.Basis.{bit}
+use Rattle.basis.proofs.Laws.{bit-le}
 use Rattle.lineup.specs.Core.{those, tally}
 
 -- every test passes as often in one list as in another
 abbrev pub Permutation : List ℕ → List ℕ → Type 0
 Permutation l m = (test : ℕ → Bool) → tally test l ≡ tally test m
 
-pub none-counted : (b : Bool) → counted b ≡ 0 → b ≡ false
+pub none-counted : (b : Bool) → bit b ≡ 0 → b ≡ false
 none-counted true e = absurd (omega arith)
 none-counted false e = refl
 
-pub at-most-one : (b : Bool) → counted b ≤ 1
-at-most-one true = omega arith
-at-most-one false = omega arith
-
-at-head : (b : Bool) (x : ℕ) (l : List ℕ) → length (cond b (x ∷ l) l) ≡ counted b + length l
+at-head : (b : Bool) (x : ℕ) (l : List ℕ) → length (cond b (x ∷ l) l) ≡ bit b + length l
 at-head true x l = omega arith
 at-head false x l = omega arith
 
 module _ (test : ℕ → Bool) where
-  pub tally-cons : (x : ℕ) (l : List ℕ) → tally test (x ∷ l) ≡ counted (test x) + tally test l
+  pub tally-cons : (x : ℕ) (l : List ℕ) → tally test (x ∷ l) ≡ bit (test x) + tally test l
   unfolding those
   tally-cons x l = at-head (test x) x (those test l)
 
@@ -42,7 +39,7 @@ module _ (test : ℕ → Bool) where
   pub tally-parts : (k : ℕ) (l : List ℕ) → tally test l ≡ tally test (take k l) + tally test (drop k l)
   tally-parts k l = ap (tally test) (sym (take-append-drop k l)) ∙ tally-append (take k l) (drop k l)
 
-  pub tally-set : (l : List ℕ) (i v : ℕ) → i < length l → tally test (set l i v) + counted (test (getD l i 0)) ≡ tally test l + counted (test v)
+  pub tally-set : (l : List ℕ) (i v : ℕ) → i < length l → tally test (set l i v) + bit (test (getD l i 0)) ≡ tally test l + bit (test v)
   tally-set [] i v h = absurd (omega arith)
   tally-set (x ∷ l) zero v h = omega (arith, tally-cons x l, tally-cons v l)
   tally-set (x ∷ l) (suc i) v h = let k = tally-set l i v (omega arith) in omega (arith, tally-cons x l, tally-cons x (set l i v))
@@ -65,10 +62,10 @@ module _ (test : ℕ → Bool) where
   pub tally-le : (l : List ℕ) → tally test l ≤ length l
   unfolding those
   tally-le [] = omega arith
-  tally-le (x ∷ l) = let h = tally-le l in omega (arith, tally-cons x l, at-most-one (test x))
+  tally-le (x ∷ l) = let h = tally-le l in omega (arith, tally-cons x l, bit-le (test x))
 
   kept : (b : Bool) (x : ℕ) (l : List ℕ) → test x ≡ b → tally test l ≡ length l → tally test (cond b (x ∷ l) l) ≡ length (cond b (x ∷ l) l)
-  kept true x l e h = let z : counted (test x) ≡ 1 = ap counted e in omega (arith, tally-cons x l)
+  kept true x l e h = let z : bit (test x) ≡ 1 = ap bit e in omega (arith, tally-cons x l)
   kept false x l e h = h
 
   -- all of those that pass, pass
@@ -96,7 +93,7 @@ same-length l m p = sym (tally-all l) ∙ (p (λ x. true) ∙ tally-all m)
 -- ---- a split in two
 module _ (test : ℕ → Bool) (yes no : ℕ → Bool) (apart : (x : ℕ) → no x ≡ not (yes x)) where
   splits : (b : Bool) (x : ℕ) (a c : List ℕ) (n : ℕ) → tally test a + tally test c ≡ n
-      → tally test (cond b (x ∷ a) a) + tally test (cond (not b) (x ∷ c) c) ≡ counted (test x) + n
+      → tally test (cond b (x ∷ a) a) + tally test (cond (not b) (x ∷ c) c) ≡ bit (test x) + n
   splits true x a c n e = omega (arith, tally-cons test x a)
   splits false x a c n e = omega (arith, tally-cons test x c)
 

@@ -10,8 +10,8 @@ use borrow.Author.Tests.{le-leb, lt-leb, leb-true}
 use lib.Dec.{leb}
 use lib.ListN.{length, take, drop, getD, set, replicate, drop-of-length-le, length-append}
 use lib.Seq.{drop-cons, drop-drop, getD-drop, set-at, length-take-le, take-all}
-use Rattle.plants.proofs.Testing.{both}
-use Rattle.plants.specs.Faults.{counted}
+use Rattle.basis.specs.Basis.{bit}
+use Rattle.basis.proofs.Laws.{both}
 use Rattle.lineup.specs.Shuffle.{swapped, shuffledFrom, picksWithin}
 use Rattle.lineup.specs.Core.{idsFrom, those, tally, flagsFit}
 use Rattle.lineup.proofs.Tallies.{tally-cons, tally-parts, those-more}
@@ -33,7 +33,7 @@ module _ (flags : List ℕ) (i : ℕ) where
 
 -- ---- how many plants from i up to n pass a test
 module _ (test : ℕ → Bool) (n i : ℕ) where
-  pub tally-next : (b : Bool) → i < n → test i ≡ b → tally test (idsFrom i (n - i)) ≡ counted b + tally test (idsFrom (i + 1) (n - (i + 1)))
+  pub tally-next : (b : Bool) → i < n → test i ≡ b → tally test (idsFrom i (n - i)) ≡ bit b + tally test (idsFrom (i + 1) (n - (i + 1)))
   tally-next b h e = rw (peel n i h, tally-cons test i (idsFrom (i + 1) (n - (i + 1))), e)
 
   pub tally-end : n ≤ i → tally test (idsFrom i (n - i)) ≡ 0

@@ -2,14 +2,11 @@
 -- Assumes nothing.
 use mathlib.Core.Bool.{Bool, true, cond, _&&_}
 use mathlib.Core.List.{List, [], _∷_, _++_}
-use Prim.Native.Nat.{ℕ, zero, suc, _+_, _-_, _/_}
+use Prim.Native.Nat.{ℕ, zero, suc, _+_, _-_}
 use lib.Dec.{leb, eqb}
 use lib.ListN.{length, take, drop, getD}
+use Rattle.basis.specs.Basis.{quorum}
 use Rattle.lineup.specs.Shuffle.{shuffled, picksWithin}
-
--- a quorum of n plants
-abbrev pub quorum : ℕ → ℕ
-quorum n = n / 2 + 1
 
 -- how many picks the size takes: none if the full core is asked
 abbrev pub sizePicks : Bool → ℕ

@@ -7,14 +7,8 @@ ghost use Prim.Native.Nat.{_+_, _-_, _≤_, _<_};
 ghost use lib.Dec.{leb};
 ghost use lib.ListN.{length, take, drop, replicate};
 ghost use Rattle.lineup.specs.Shuffle.{shuffled, picksWithin};
-ghost use Rattle.lineup.specs.Core.{quorum, idsFrom, those, tally, hasFlag, isHealthy, isRecovering, flagsFit, healthyCount, candidates, staying, filler, lineUp};
-
-// A quorum of n plants.
-pub fn quorum(n: usize) -> usize
-    ensures { λ r. ⌜ r ≡ quorum n ⌝ }
-{
-    n / 2 + 1
-}
+ghost use Rattle.basis.specs.Basis.{quorum};
+ghost use Rattle.lineup.specs.Core.{idsFrom, those, tally, hasFlag, isHealthy, isRecovering, flagsFit, healthyCount, candidates, staying, filler, lineUp};
 
 // Whether no flag is over 1.
 pub fn flags_fit(flags: &[u64]) -> bool
@@ -141,7 +135,7 @@ fn arrange(ids: &[u64], flags: &[u64], picks: &[u64], line: &mut [u64])
     ensures { λ _. ⌜ now (line .exit) ≡ staying (length (now (ids .entry))) (now (flags .entry)) (now (ids .entry)) ++ shuffled (now (picks .entry)) (filler (length (now (ids .entry))) (now (flags .entry)) (now (ids .entry))) ⌝ }
 {
     split(ids, flags, line);
-    let start = quorum(ids.len());
+    let start = basis::quorum(ids.len());
     shuffle(&mut line[start..], picks);
 }
 

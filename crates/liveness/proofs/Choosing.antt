@@ -10,14 +10,15 @@ use borrow.Author.Tests.{leb-true}
 use lib.Dec.{leb, eqb}
 use lib.ListN.{length, take, drop, replicate, length-append, length-drop}
 use lib.Seq.{length-take-le, take-append-le}
-use Rattle.plants.specs.State.{most, countsFit}
+use Rattle.basis.specs.Basis.{most, quorum}
+use Rattle.basis.proofs.Laws.{both}
+use Rattle.plants.specs.State.{countsFit}
 use Rattle.plants.specs.declared.Plants.{Plants}
 use Rattle.plants.specs.declared.refusal.Refusal.{Refusal}
 use Rattle.plants.specs.declared.refusal.Refusal.the-variants.{CountFull}
 use Rattle.plants.specs.declared.refusal.Test.the-variants.{Passed, Failed}
-use Rattle.plants.proofs.Testing.{both}
 use Rattle.lineup.specs.Shuffle.{picksWithin}
-use Rattle.lineup.specs.Core.{quorum, sizePicks, picksUsed, firstPicks, secondPicks, coreSize, picksInRange, idsFrom, those, tally, lineUp, coreOf}
+use Rattle.lineup.specs.Core.{sizePicks, picksUsed, firstPicks, secondPicks, coreSize, picksInRange, idsFrom, those, tally, lineUp, coreOf}
 use Rattle.liveness.specs.Choice.{member, inCore, isSet, upAfter, settled, padded, lentTested, choiceTested, chosen}
 use Rattle.liveness.specs.declared.Chosen.{Chosen}
 use Rattle.liveness.specs.declared.Choice.the-variants.{Made, Refused}

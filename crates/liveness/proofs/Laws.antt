@@ -12,7 +12,8 @@ use lib.Dec.{leb}
 use lib.ListN.{length, take, drop, getD}
 use lib.Seq.{length-take-le, take-append-add}
 use Rattle.plants.specs.Refusals.{must}
-use Rattle.plants.specs.State.{most, noneSet, countsFit, tested}
+use Rattle.basis.specs.Basis.{most, quorum}
+use Rattle.plants.specs.State.{noneSet, countsFit, tested}
 use Rattle.plants.specs.Faults.{isUp}
 use Rattle.plants.specs.declared.Plants.{Plants}
 use Rattle.plants.specs.declared.refusal.Refusal.{Refusal}
@@ -22,7 +23,7 @@ use Rattle.plants.specs.declared.refusal.Test.the-variants.{Passed, Failed}
 use Rattle.plants.proofs.Testing.{both-pass, holds, count-holds, good, by-counts}
 use Rattle.plants.proofs.Laws.{none-past}
 use Rattle.lineup.specs.Shuffle.{shuffled}
-use Rattle.lineup.specs.Core.{quorum, sizePicks, picksUsed, firstPicks, secondPicks, coreSize, idsFrom, those, tally, isHealthy, candidates, filler, lineUp, coreOf}
+use Rattle.lineup.specs.Core.{sizePicks, picksUsed, firstPicks, secondPicks, coreSize, idsFrom, those, tally, isHealthy, candidates, filler, lineUp, coreOf}
 use Rattle.liveness.specs.Choice.{member, inCore, settled, lentTested, choiceTested, chosenIf, chosen}
 use Rattle.liveness.specs.declared.Choice.the-variants.{Refused}
 use Rattle.lineup.proofs.Tallies.{none-counted, tally-cons, all-below, same-length, those-pass, front-passes, tally-append}

@@ -7,13 +7,15 @@ use borrow.Author.Tests.{le-leb, lt-leb, leb-true, eq-eqb, ne-eqb, eqb-true}
 use lib.Dec.{leb, eqb}
 use lib.ListN.{length}
 use Rattle.plants.specs.Refusals.{must, _then_}
-use Rattle.plants.specs.State.{fewest, most, tested}
+use Rattle.basis.specs.Basis.{fewest, most, quorum}
+use Rattle.basis.proofs.Laws.{both}
+use Rattle.plants.specs.State.{tested}
 use Rattle.plants.specs.declared.Plants.{Plants}
 use Rattle.plants.specs.declared.refusal.Refusal.{Refusal}
 use Rattle.plants.specs.declared.refusal.Refusal.the-variants.{BadFlags, TooFewHealthy, TooFewPicks, PickOutOfRange}
 use Rattle.plants.specs.declared.refusal.Test.the-variants.{Passed, Failed}
-use Rattle.plants.proofs.Testing.{both, both-pass, holds, bounds}
-use Rattle.lineup.specs.Core.{quorum, picksUsed, picksInRange, flagsFit, healthyCount}
+use Rattle.plants.proofs.Testing.{both-pass, holds, bounds}
+use Rattle.lineup.specs.Core.{picksUsed, picksInRange, flagsFit, healthyCount}
 use Rattle.liveness.specs.Choice.{lentTested}
 
 module _ (s : Plants) (flags picks : List ℕ) (full : Bool) where

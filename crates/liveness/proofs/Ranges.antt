@@ -8,7 +8,8 @@ use borrow.Author.Tests.{le-leb, lt-leb}
 use lib.ListN.{length, take, drop, length-drop}
 use lib.Seq.{take-all}
 use Rattle.lineup.specs.Shuffle.{picksWithin}
-use Rattle.lineup.specs.Core.{quorum, sizePicks, coreSize, picksInRange}
+use Rattle.basis.specs.Basis.{quorum}
+use Rattle.lineup.specs.Core.{sizePicks, coreSize, picksInRange}
 
 -- all that stands behind the first k
 pub rest : (l : List ℕ) (k : ℕ) → take (length l - k) (drop k l) ≡ drop k l

@@ -6,12 +6,12 @@ use Prim.Native.Nat.{ℕ, _+_, _≤_, _<_}
 use native.Mathlib.Numerals.{add-one}
 use lib.ListN.{length, drop, getD, drop-of-length-le}
 use lib.Seq.{drop-cons}
-use Rattle.plants.specs.Faults.{counted}
+use Rattle.basis.specs.Basis.{bit}
 use Rattle.liveness.specs.Choice.{risen}
 
 module _ (before after : List Bool) (i : ℕ) where
   pub risen-next : i < length before → i < length after
-      → risen (drop i before) (drop i after) ≡ counted (not (getD before i false) && getD after i false) + risen (drop (i + 1) before) (drop (i + 1) after)
+      → risen (drop i before) (drop i after) ≡ bit (not (getD before i false) && getD after i false) + risen (drop (i + 1) before) (drop (i + 1) after)
   unfolding risen
   risen-next h k = rw (add-one i, drop-cons before i false h, drop-cons after i false k)
 

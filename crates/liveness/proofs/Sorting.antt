@@ -7,19 +7,19 @@ use native.Mathlib.Omega.{arith}
 use native.Mathlib.Decide.{ℕ-discrete}
 use borrow.Author.Tests.{lt-ltb, le-leb, lt-leb, leb-false, eq-eqb, ne-eqb}
 use lib.Dec.{leb, ltb, eqb}
-use Rattle.plants.specs.Faults.{counted}
+use Rattle.basis.specs.Basis.{bit}
 use Rattle.lineup.specs.Core.{idsFrom, those, tally, inserted, sorted}
 use Rattle.liveness.specs.Choice.{member, inCore}
 use Rattle.lineup.proofs.Tallies.{Permutation, tally-cons, none-counted}
 
 -- ---- sorting permutes
 module _ (test : ℕ → Bool) where
-  insert-step : (b : Bool) (x y : ℕ) (l m : List ℕ) → tally test m ≡ counted (test x) + tally test l
-      → tally test (cond b (x ∷ y ∷ l) (y ∷ m)) ≡ counted (test x) + tally test (y ∷ l)
+  insert-step : (b : Bool) (x y : ℕ) (l m : List ℕ) → tally test m ≡ bit (test x) + tally test l
+      → tally test (cond b (x ∷ y ∷ l) (y ∷ m)) ≡ bit (test x) + tally test (y ∷ l)
   insert-step true x y l m e = tally-cons test x (y ∷ l)
   insert-step false x y l m e = omega (arith, tally-cons test y m, tally-cons test y l)
 
-  tally-inserted : (x : ℕ) (l : List ℕ) → tally test (inserted x l) ≡ counted (test x) + tally test l
+  tally-inserted : (x : ℕ) (l : List ℕ) → tally test (inserted x l) ≡ bit (test x) + tally test l
   unfolding inserted
   tally-inserted x [] = tally-cons test x []
   tally-inserted x (y ∷ l) = insert-step (leb x y) x y l (inserted x l) (tally-inserted x l)
@@ -32,7 +32,7 @@ sort-permutes (x ∷ l) test =
     omega (arith, tally-inserted test x (sorted l), tally-cons test x l)
 
 -- ---- members, by how often each is there
-member-step : (b : Bool) (n : ℕ) → (b || ltb 0 n) ≡ ltb 0 (counted b + n)
+member-step : (b : Bool) (n : ℕ) → (b || ltb 0 n) ≡ ltb 0 (bit b + n)
 member-step true n = sym (lt-ltb 0 (1 + n) (omega arith))
 member-step false n = let z : n ≡ 0 + n = omega arith in ap (ltb 0) z
 
@@ -110,7 +110,7 @@ Once l = (x : ℕ) → tally (eqb x) l ≤ 1
 
 once-more : (x : ℕ) (l : List ℕ) → Once (x ∷ l) → member x l ≡ false
 once-more x l o =
-    let z : tally (eqb x) l ≡ 0 = omega (arith, o x, tally-cons (eqb x) x l, ap counted (eq-eqb x x refl)) in
+    let z : tally (eqb x) l ≡ 0 = omega (arith, o x, tally-cons (eqb x) x l, ap bit (eq-eqb x x refl)) in
     member-tally x l ∙ ap (ltb 0) z
 
 -- sorted, they are the members in the order of the plants' numbers

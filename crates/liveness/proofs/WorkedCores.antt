@@ -4,7 +4,8 @@ use mathlib.Core.List.{List, [], _∷_, _++_}
 use mathlib.Core.Path.{_≡_, refl}
 use Prim.Native.Nat.{ℕ}
 use lib.ListN.{replicate}
-use Rattle.plants.specs.State.{fresh, tested, plantCount, wellFormed, noneSet, countsFit}
+use Rattle.basis.specs.Basis.{plantCount}
+use Rattle.plants.specs.State.{fresh, tested, wellFormed, noneSet, countsFit}
 use Rattle.lineup.specs.Shuffle.{shuffledFrom, picksWithin}
 use Rattle.lineup.specs.Core.{picksInRange, idsFrom, those, lineUp, inserted, sorted, coreOf, flagsFit, healthyCount}
 use Rattle.liveness.specs.Choice.{member, inCore, risen, lentTested, choiceTested, chosen}

@@ -6,13 +6,13 @@ use Prim.Native.Nat.{ℕ, zero, suc, _+_, _-_}
 use lib.Dec.{leb, eqb}
 use lib.ListN.{length, getD, replicate}
 use Rattle.plants.specs.Refusals.{must, _then_}
-use Rattle.plants.specs.State.{most, tested, countsFit}
-use Rattle.plants.specs.Faults.{counted}
+use Rattle.basis.specs.Basis.{most, bit, quorum}
+use Rattle.plants.specs.State.{tested, countsFit}
 use Rattle.plants.specs.declared.Plants.{Plants}
 use Rattle.plants.specs.declared.refusal.Refusal.the-variants.{CountFull, BadFlags, TooFewPicks, PickOutOfRange, TooFewHealthy}
 use Rattle.plants.specs.declared.refusal.Test.{Test}
 use Rattle.plants.specs.declared.refusal.Test.the-variants.{Passed, Failed}
-use Rattle.lineup.specs.Core.{quorum, picksUsed, coreSize, picksInRange, flagsFit, healthyCount, coreOf}
+use Rattle.lineup.specs.Core.{picksUsed, coreSize, picksInRange, flagsFit, healthyCount, coreOf}
 use Rattle.liveness.specs.declared.Chosen.{Chosen}
 use Rattle.liveness.specs.declared.Choice.the-variants.{Made, Refused}
 
@@ -33,7 +33,7 @@ unfoldable pub risen : List Bool → List Bool → ℕ
 risen [] [] = 0
 risen [] (x ∷ xs) = 0
 risen (b ∷ bs) [] = 0
-risen (b ∷ bs) (x ∷ xs) = counted (not b && x) + risen bs xs
+risen (b ∷ bs) (x ∷ xs) = bit (not b && x) + risen bs xs
 
 -- which plants are up after the choice
 abbrev pub upAfter : List ℕ → List Bool

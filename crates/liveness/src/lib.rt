@@ -1,7 +1,7 @@
 // The core of plants that stays up at the end of a run, when every fault is over and the plants are
 // to agree: at least a quorum that is not recovering, and others as the picks have it. It stands
 // where the Rust has transition_to_liveness_mode.
-use plants::MOST;
+use basis::MOST;
 use plants::Plants;
 use plants::refusal::Refusal;
 use plants::refusal::Test;
@@ -11,8 +11,8 @@ ghost use Prim.Native.Nat.{_+_, _-_, _≤_, _<_};
 ghost use lib.Dec.{leb};
 ghost use lib.ListN.{length};
 ghost use Rattle.plants.specs.State.{limit};
-ghost use Rattle.plants.specs.Faults.{counted};
-ghost use Rattle.lineup.specs.Core.{quorum, sizePicks, picksUsed, coreSize, picksInRange, idsFrom, those, tally, coreOf, flagsFit, healthyCount};
+ghost use Rattle.basis.specs.Basis.{bit, quorum};
+ghost use Rattle.lineup.specs.Core.{sizePicks, picksUsed, coreSize, picksInRange, idsFrom, those, tally, coreOf, flagsFit, healthyCount};
 ghost use Rattle.liveness.specs.Choice.{lentTested, inCore, upAfter, isSet, risen, settledBy, padded, chosen};
 
 // A core of so many plants, chosen by so many picks, or why there is none.
@@ -56,7 +56,7 @@ fn picks_in_range(n: usize, picks: &[u64], full: bool) -> bool
     ensures { λ r. ⌜ r ≡ picksInRange n (now (picks .entry)) full ⌝ }
 {
     let size = core_size(n, picks, full);
-    if size < lineup::quorum(n) {
+    if size < basis::quorum(n) {
         return false;
     }
     if n < size {
@@ -67,7 +67,7 @@ fn picks_in_range(n: usize, picks: &[u64], full: bool) -> bool
         return false;
     }
     let second = first + (n - 1);
-    lineup::picks_within(&picks[second..], n - lineup::quorum(n) - 1)
+    lineup::picks_within(&picks[second..], n - basis::quorum(n) - 1)
 }
 
 // The tests before the core is chosen.
@@ -85,7 +85,7 @@ fn test_lent(plants: Plants, recovering: &[u64], picks: &[u64], full: bool) -> T
     if !lineup::flags_fit(recovering) {
         return Test::Failed(Refusal::BadFlags);
     }
-    if lineup::healthy_count(recovering) < lineup::quorum(n) {
+    if lineup::healthy_count(recovering) < basis::quorum(n) {
         return Test::Failed(Refusal::TooFewHealthy);
     }
     if picks.len() < picks_used(n, full) {
@@ -102,7 +102,7 @@ fn picks_used(n: usize, full: bool) -> usize
     requires { ⌜ (3 ≤ n) × (n ≤ 15) ⌝ }
     ensures { λ r. ⌜ r ≡ picksUsed n full ⌝ }
 {
-    size_picks(full) + (n - 1) + (n - lineup::quorum(n) - 1)
+    size_picks(full) + (n - 1) + (n - basis::quorum(n) - 1)
 }
 
 // Which plants are among some.
@@ -153,7 +153,7 @@ fn rising(flags: &[bool; 15]) -> [u64; 15]
 
 // One if a flag is set that was not.
 fn rises(before: bool, after: bool) -> u64
-    ensures { λ r. ⌜ r ≡ counted (not before && after) ⌝ }
+    ensures { λ r. ⌜ r ≡ bit (not before && after) ⌝ }
 {
     if before {
         return 0;

@@ -1,13 +1,14 @@
 -- A call's answer test by test, and the network that each answer leaves. Assumes nothing.
 use mathlib.Core.Path.{_≡_, refl, ap, _∙_}
 use mathlib.Core.List.{List, [], _∷_}
-use mathlib.Core.Bool.{Bool, true, false}
+use mathlib.Core.Bool.{true, false}
 use Prim.Native.Nat.{ℕ, _+_, _*_, _≤_, _<_}
 use native.Mathlib.Omega.{arith}
 use borrow.Author.Tests.{le-leb, lt-leb, lt-ltb, le-ltb}
 use lib.Dec.{leb}
 use lib.ListN.{length}
-use Rattle.nights.specs.Net.{capacity, sentLimit, lastKind, lastSort, Fate, refuse, lose, once, twice, bit, dues, lostBy, replayedBy, delayedBy, Letter, Plain as Call, send, take as takes, keep, isDue, effect}
+use Rattle.basis.proofs.Laws.{bit-le}
+use Rattle.nights.specs.Net.{capacity, sentLimit, lastKind, lastSort, Fate, refuse, lose, once, twice, dues, lostBy, replayedBy, delayedBy, Letter, Plain as Call, send, take as takes, keep, isDue, effect}
 use Rattle.nights.specs.Record.{recs}
 use Rattle.nights.specs.Draws.{Decided, fateOf}
 use Rattle.nights.specs.Journal.{Answer, done, refused, verdict, tests}
@@ -164,10 +165,6 @@ refusing-fate lose k e = let z : _≡_ {A = ℕ} 0 1 = cc in absurd (omega arith
 refusing-fate (once d x) k e = let z : _≡_ {A = ℕ} 0 1 = cc in absurd (omega arith)
 refusing-fate (twice c d x y) k e = let z : _≡_ {A = ℕ} 0 1 = cc in absurd (omega arith)
 
-bit-small : (b : Bool) → bit b ≤ 1
-bit-small true = omega arith
-bit-small false = omega arith
-
 -- a send raises no counter by more than two
 pub record Few (f : Fate) : Type 0 where
   pub queued : length (dues f) ≤ 2
@@ -179,6 +176,6 @@ pub few : (f : Fate) → Few f
 unfolding dues lostBy replayedBy delayedBy
 few (refuse k) = record { queued = omega arith; lost = omega arith; replayed = omega arith; delayed = omega arith }
 few lose = record { queued = omega arith; lost = omega arith; replayed = omega arith; delayed = omega arith }
-few (once d x) = record { queued = omega arith; lost = omega arith; replayed = omega arith; delayed = omega (arith, bit-small x) }
+few (once d x) = record { queued = omega arith; lost = omega arith; replayed = omega arith; delayed = omega (arith, bit-le x) }
 few (twice c d x y) =
-    record { queued = omega arith; lost = omega arith; replayed = omega arith; delayed = omega (arith, bit-small x, bit-small y) }
+    record { queued = omega arith; lost = omega arith; replayed = omega arith; delayed = omega (arith, bit-le x, bit-le y) }

@@ -9,7 +9,8 @@ use native.Mathlib.Omega.{arith}
 use borrow.Author.Tests.{le-leb, lt-leb}
 use lib.Dec.{leb}
 use Rattle.nights.specs.Record.{Record}
-use Rattle.nights.specs.Net.{bit, Options, Network as Plain, dues, Letter, copies, Plain as Call, send, take, choose, keep, isDue, isLater, insertAll, setOptions, effect, wellFormed}
+use Rattle.basis.specs.Basis.{bit}
+use Rattle.nights.specs.Net.{Options, Network as Plain, dues, Letter, copies, Plain as Call, send, take, choose, keep, isDue, isLater, insertAll, setOptions, effect, wellFormed}
 use Rattle.nights.specs.Draws.{fateOf}
 use Rattle.nights.specs.Journal.{Answer, done, refused}
 use Rattle.nights.proofs.Order.{All, Ordered, all-map, keep-all, ordered-keep, unseen-all}

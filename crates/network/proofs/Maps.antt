@@ -14,7 +14,8 @@ use Rattle.nights.specs.Record.{Record, recordSize, wordsOf, recs}
 use Rattle.nights.specs.Net.{capacity, Network as Plain, Fate, dues, lostBy, replayedBy, delayedBy, Letter, copies, keep, isDue, isLater, insertAll, sendOne, takeDue, setOptions, goodOptions, wellFormed}
 use Rattle.nights.proofs.Order.{Ordered, length-split, length-insertAll}
 use Rattle.nights.proofs.Good.{length-copies}
-use Rattle.nights.proofs.Kept.{both, Counts, counted, good, options-good}
+use Rattle.basis.proofs.Laws.{both}
+use Rattle.nights.proofs.Kept.{Counts, counted, good, options-good}
 use Rattle.queue.specs.Form.{zeros}
 use Rattle.queue.specs.Packed.{packed}
 use Rattle.queue.specs.Places.{dueCount, leftWords, goneWords, insertedAll}

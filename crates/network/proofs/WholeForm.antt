@@ -7,7 +7,7 @@ use lib.ListN.{drop}
 use Rattle.nights.specs.Record.{recs}
 use Rattle.nights.specs.Net.{capacity, every, goodRecord, rising, goodOptions, goodCounts, wellFormed}
 use Rattle.queue.specs.Form.{zeros}
-use Rattle.nights.proofs.Kept.{both}
+use Rattle.basis.proofs.Laws.{both}
 use Rattle.queue.proofs.Inserting.{length-recs}
 use Rattle.network.specs.declared.Network.{Network}
 use Rattle.fates.specs.Options.{plainOptions}

@@ -1,6 +1,7 @@
 -- What the answers of a take and of a send tell. Assumes nothing.
 use Prim.Native.Nat.{ℕ}
-use Rattle.nights.specs.Net.{Fate, refuse, lose, once, twice, bit, lostBy, replayedBy}
+use Rattle.basis.specs.Basis.{bit}
+use Rattle.nights.specs.Net.{Fate, refuse, lose, once, twice, lostBy, replayedBy}
 use Rattle.nights.specs.Draws.{Decided}
 use Rattle.nights.specs.Journal.{Answer, done, refused}
 use Rattle.fates.specs.Answers.{number}

@@ -24,7 +24,6 @@ use fates::Settled;
 use network::Counted;
 use network::Network;
 use network::SendAnswer;
-ghost use mathlib.Core.Path.{_≡_};
 ghost use Prim.Native.Nat.{_+_, _*_, _≤_, _<_};
 ghost use lib.ListN.{length};
 
@@ -37,49 +36,48 @@ pub const ROOM: usize = 1040;
 // What an output is filled with.
 pub const PATTERN: u64 = 0xa5a5_5a5a_c3c3_3c3c;
 
-// The bits of 2, and where a hash begins.
+// The bits of 2.
 const NO_PROBABILITY: u64 = 0x4000_0000_0000_0000;
 
-pub const FIRST_HASH: u64 = 0xcbf2_9ce4_8422_2325;
+// Where each outcome is counted, in the order in which they are printed: the refusals 20 to 30 stand from REFUSED on.
+pub const CASES: usize = 0;
 
-// Where the tally has each outcome that is no refusal; the refusals 20 to 30 stand from 0 on.
-const MADE: usize = 11;
+// Calls answered otherwise, and a list that ends within a call.
+pub const DIFFERING: usize = 1;
 
-const OPTIONS_SET: usize = 12;
+const MADE: usize = 2;
 
-const LOST: usize = 13;
+const OPTIONS_SET: usize = 3;
 
-const REPLAYED: usize = 14;
+const LOST: usize = 4;
 
-const QUEUED_ONCE: usize = 15;
+const REPLAYED: usize = 5;
 
-const NOT_FAULTED: usize = 16;
+const QUEUED_ONCE: usize = 6;
 
-const DELAYED: usize = 17;
+const NOT_FAULTED: usize = 7;
 
-const LEFT_FULL: usize = 18;
+const DELAYED: usize = 8;
 
-const NONE_TAKEN: usize = 19;
+const LEFT_FULL: usize = 9;
 
-const SOME_TAKEN: usize = 20;
+const NONE_TAKEN: usize = 10;
 
-const ALL_TAKEN: usize = 21;
+const SOME_TAKEN: usize = 11;
 
-const PENDING_TOLD: usize = 22;
+const ALL_TAKEN: usize = 12;
 
-const LISTED: usize = 23;
+const PENDING_TOLD: usize = 13;
 
-const WORD_PUT: usize = 24;
+const LISTED: usize = 14;
 
-const OTHER: usize = 25;
+const WORD_PUT: usize = 15;
 
-// How often each outcome was met.
-pub struct Tally {
-    pub calls: u64,
-    // Calls answered otherwise, and a list that ends within a call.
-    pub differing: u64,
-    pub met: [u64; 26],
-}
+const REFUSED: usize = 16;
+
+const OTHER: usize = 27;
+
+pub const COUNTS: usize = 28;
 
 // What a call gave.
 pub struct Done {
@@ -90,39 +88,11 @@ pub struct Done {
     pub output: u64,
 }
 
-// One more. No list is long enough to wrap.
-pub fn one_more(n: u64) -> u64 {
-    std::num::wrapping_add_u64(n, 1)
-}
-
 // ---- Hashes
-
-fn add(a: u64, b: u64) -> u64 {
-    std::num::wrapping_add_u64(a, b)
-}
-
-// FNV-1a with a word for a byte: the prime is 2^40 + 2^8 + 2^7 + 2^5 + 2^4 + 2 + 1.
-fn stir(hash: u64, word: u64) -> u64 {
-    let h = hash ^ word;
-    let high = add(h << 40, h << 8);
-    let middle = add(h << 7, h << 5);
-    let low = add(h << 4, h << 1);
-    add(add(high, middle), add(low, h))
-}
-
-pub fn hash_words(words: &[u64], hash: u64) -> u64 {
-    let mut h = hash;
-    let mut i: usize = 0;
-    while i < words.len() {
-        h = stir(h, words[i]);
-        i += 1;
-    }
-    h
-}
 
 pub fn hash_output(output: [u64; 1040]) -> u64 {
     let words = output;
-    hash_words(&words[..], FIRST_HASH)
+    tape::hash_words(&words[..], tape::FIRST_HASH)
 }
 
 fn probability(bits: u64) -> f64 {
@@ -139,32 +109,25 @@ fn bits_of(p: f64) -> u64 {
     NO_PROBABILITY
 }
 
-fn flag_word(flag: bool) -> u64 {
-    if flag {
-        return 1;
-    }
-    0
-}
-
 pub fn hash_options(options: NetworkOptions) -> u64 {
-    let loss = stir(FIRST_HASH, bits_of(options.packet_loss_probability));
-    let replay = stir(loss, bits_of(options.packet_replay_probability));
-    let min = stir(replay, options.one_way_delay_min);
-    let mean = stir(min, options.one_way_delay_mean);
-    stir(mean, flag_word(options.fault_client_messages))
+    let loss = tape::stir(tape::FIRST_HASH, bits_of(options.packet_loss_probability));
+    let replay = tape::stir(loss, bits_of(options.packet_replay_probability));
+    let min = tape::stir(replay, options.one_way_delay_min);
+    let mean = tape::stir(min, options.one_way_delay_mean);
+    tape::stir(mean, basis::flag_word(options.fault_client_messages))
 }
 
 pub fn hash_network(network: Network) -> u64 {
     let options = hash_options(network.options);
-    let pending = stir(options, network.pending as u64);
-    let seq = stir(pending, network.seq);
-    let sent = stir(seq, network.sent);
-    let delivered = stir(sent, network.delivered);
-    let lost = stir(delivered, network.lost);
-    let replayed = stir(lost, network.replayed);
-    let delayed = stir(replayed, network.delayed);
+    let pending = tape::stir(options, network.pending as u64);
+    let seq = tape::stir(pending, network.seq);
+    let sent = tape::stir(seq, network.sent);
+    let delivered = tape::stir(sent, network.delivered);
+    let lost = tape::stir(delivered, network.lost);
+    let replayed = tape::stir(lost, network.replayed);
+    let delayed = tape::stir(replayed, network.delayed);
     let words = network.words;
-    hash_words(&words[..], delayed)
+    tape::hash_words(&words[..], delayed)
 }
 
 // ---- The calls
@@ -231,15 +194,13 @@ pub fn counted(network: Network, answer: Counted, output: u64) -> Done {
     }
 }
 
+// 1 if lost, plus 2 if replayed.
 fn fate_word(lost: bool, replayed: bool) -> u64 {
-    add(
-        flag_word(lost),
-        add(flag_word(replayed), flag_word(replayed)),
-    )
+    basis::flag_word(lost) ^ (basis::flag_word(replayed) << 1)
 }
 
 fn used_word(draws: usize, extras: usize) -> u64 {
-    add((draws as u64) << 4, extras as u64)
+    std::num::wrapping_add_u64((draws as u64) << 4, extras as u64)
 }
 
 pub fn sent(network: Network, answer: SendAnswer) -> Done {
@@ -428,12 +389,10 @@ pub fn agrees(done: Done, case: [u64; 22]) -> bool {
     hash_network(done.network) == case[5]
 }
 
-// ---- The tally
+// ---- What is counted
 
 // Which outcome a send met, in a network with those options.
-fn send_outcome(options: NetworkOptions, case: [u64; 22]) -> usize
-    ensures { λ r. ⌜ r ≤ 25 ⌝ }
-{
+fn send_outcome(options: NetworkOptions, case: [u64; 22]) -> usize {
     if case[2] == 1 {
         return LOST;
     }
@@ -449,9 +408,7 @@ fn send_outcome(options: NetworkOptions, case: [u64; 22]) -> usize
 }
 
 // Which outcome a take met that leaves so many pending.
-fn take_outcome(taken: u64, pending: usize) -> usize
-    ensures { λ r. ⌜ r ≤ 25 ⌝ }
-{
+fn take_outcome(taken: u64, pending: usize) -> usize {
     if taken == 0 {
         return NONE_TAKEN;
     }
@@ -462,9 +419,7 @@ fn take_outcome(taken: u64, pending: usize) -> usize
 }
 
 // Which outcome a call met that is expected not to be refused.
-fn outcome(options: NetworkOptions, pending: usize, case: [u64; 22]) -> usize
-    ensures { λ r. ⌜ r ≤ 25 ⌝ }
-{
+fn outcome(options: NetworkOptions, pending: usize, case: [u64; 22]) -> usize {
     let number = case[0];
     if number == 1 {
         return MADE;
@@ -487,99 +442,33 @@ fn outcome(options: NetworkOptions, pending: usize, case: [u64; 22]) -> usize
     WORD_PUT
 }
 
-// Where the tally has a refusal.
-fn refusal_place(number: u64) -> usize
-    ensures { λ r. ⌜ r ≤ 25 ⌝ }
-{
+// Where a refusal is counted.
+fn refusal_place(number: u64) -> usize {
     if number < 20 {
         return OTHER;
     }
     if 30 < number {
         return OTHER;
     }
-    (number - 20) as usize
+    REFUSED + (number - 20) as usize
 }
 
-impl Tally {
-    pub fn new() -> Tally {
-        Tally {
-            calls: 0,
-            differing: 0,
-            met: [0u64; 26],
-        }
+// Counts a call, which made a network of the one before.
+pub fn meet(counts: &mut [u64], before: Network, after: Network, case: [u64; 22]) {
+    tape::count(counts, CASES);
+    if case[1] != 0 {
+        tape::count(counts, refusal_place(case[1]));
+        return;
     }
-
-    // With one difference more.
-    pub fn differs(self) -> Tally {
-        let mut next = self;
-        next.differing = one_more(next.differing);
-        next
-    }
-
-    fn meets(self, place: usize) -> Tally
-        requires { ⌜ place ≤ 25 ⌝ }
-    {
-        let mut next = self;
-        let count = next.met[place];
-        next.met[place] = one_more(count);
-        next
-    }
-
-    // With what a send beside its fate did: a copy delayed, the last place filled.
-    fn meets_beside(self, delayed: bool, full: bool) -> Tally {
-        let mut next = self;
-        if delayed {
-            next = next.meets(DELAYED);
-        }
-        if full {
-            next = next.meets(LEFT_FULL);
-        }
-        next
-    }
-
-    // With one call more, which made this network of the one before.
-    pub fn met_by(self, before: Network, after: Network, case: [u64; 22]) -> Tally {
-        let mut next = self;
-        next.calls = one_more(next.calls);
-        if case[1] != 0 {
-            return next.meets(refusal_place(case[1]));
-        }
-        let outcome = outcome(before.options, after.pending, case);
-        let met = next.meets(outcome);
-        if case[0] == 3 {
-            return met.meets_beside(
-                before.delayed < after.delayed,
-                after.pending == queue::CAPACITY,
-            );
-        }
-        met
-    }
+    tape::count(counts, outcome(before.options, after.pending, case));
+    let sent = case[0] == 3;
+    let delayed = before.delayed < after.delayed;
+    let full = after.pending == queue::CAPACITY;
+    tape::count_if(counts, sent && delayed, DELAYED);
+    tape::count_if(counts, sent && full, LEFT_FULL);
 }
 
 // ---- The list
-
-fn wide(b: u8) -> u64
-    ensures { λ r. ⌜ r ≤ 255 ⌝ }
-{
-    b as u64
-}
-
-// A number from four bytes.
-fn half(list: &[u8], at: usize) -> u64
-    requires { ⌜ at + 4 ≤ length (now list) ⌝ }
-    ensures { λ r. ⌜ r ≤ 4294967295 ⌝ }
-{
-    let low = wide(list[at]) + 256 * wide(list[at + 1]);
-    let high = wide(list[at + 2]) + 256 * wide(list[at + 3]);
-    low + 65536 * high
-}
-
-// A word from eight bytes.
-pub fn word(list: &[u8], at: usize) -> u64
-    requires { ⌜ at + 8 ≤ length (now list) ⌝ }
-{
-    half(list, at) + 4294967296 * half(list, at + 4)
-}
 
 // The words of a call, and zeros.
 pub fn case_at(list: &[u8], at: usize, count: usize) -> [u64; 22]
@@ -588,7 +477,7 @@ pub fn case_at(list: &[u8], at: usize, count: usize) -> [u64; 22]
     let mut words = [0u64; 22];
     let mut i: usize = 0;
     while i < count {
-        words[i] = word(list, at + 8 * i);
+        words[i] = tape::word(list, at + 8 * i);
         i += 1;
     }
     words
@@ -613,59 +502,48 @@ fn size_of(number: u64) -> usize
     8
 }
 
-// One call: the tally with it, the network after it and where the next call begins.
+// The network after a call, and where the next call begins.
 pub struct Turn {
-    pub tally: Tally,
     pub network: Network,
     pub next: usize,
 }
 
 // Replays the call at a place. A call that passes the end counts as a difference and ends the list.
-fn replay_call(list: &[u8], at: usize, network: Network, tally: Tally) -> Turn
+fn replay_call(list: &[u8], at: usize, network: Network, counts: &mut [u64]) -> Turn
     requires { ⌜ at + 8 ≤ length (now list) ⌝ }
     ensures { λ r. ⌜ (at + 8 ≤ r .next) × (r .next ≤ length (now (list .entry))) ⌝ }
 {
-    let size = size_of(word(list, at));
+    let size = size_of(tape::word(list, at));
     if list.len() - at < 8 * size {
+        tape::count(counts, DIFFERING);
         return Turn {
-            tally: tally.differs(),
             network,
             next: list.len(),
         };
     }
     let case = case_at(list, at, size);
-    let next = at + 8 * size;
     let done = call(network, case);
     let after = done.network;
-    let met = tally.met_by(network, after, case);
-    if agrees(done, case) {
-        return Turn {
-            tally: met,
-            network: after,
-            next,
-        };
-    }
+    meet(counts, network, after, case);
+    tape::count_if(counts, !agrees(done, case), DIFFERING);
     Turn {
-        tally: met.differs(),
         network: after,
-        next,
+        next: at + 8 * size,
     }
 }
 
 // Replays a list, from a perfect network on.
-pub fn replay(list: &[u8]) -> Tally {
-    let mut tally = Tally::new();
+pub fn replay(list: &[u8], counts: &mut [u64]) {
     let first = Network::new(NetworkOptions::perfect());
     let mut network = first.network;
     let mut at: usize = 0;
     while at < list.len() {
         if list.len() - at < 8 {
-            return tally.differs();
+            tape::count(counts, DIFFERING);
+            return;
         }
-        let done = replay_call(list, at, network, tally);
-        tally = done.tally;
+        let done = replay_call(list, at, network, counts);
         network = done.network;
         at = done.next;
     }
-    tally
 }

@@ -12,7 +12,8 @@ use Rattle.chance.specs.Probability.{goodWord}
 use Rattle.chance.proofs.ThereAndBack.{there-and-back}
 use Rattle.nights.specs.Net.{Options, Plain as Call, choose, goodOptions, effect}
 use Rattle.nights.specs.Journal.{done, refused, verdict, tests, optionTests}
-use Rattle.nights.proofs.Kept.{both, options-good}
+use Rattle.basis.proofs.Laws.{both}
+use Rattle.nights.proofs.Kept.{options-good}
 use Rattle.queue.proofs.Inserting.{length-recs}
 use Rattle.network.specs.declared.Head.{Head}
 use Rattle.network.specs.declared.Network.{Network}

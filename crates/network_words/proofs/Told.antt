@@ -5,7 +5,7 @@ use mathlib.Core.List.{List, [], _∷_, _++_}
 use mathlib.Core.Bool.{Bool, true, false}
 use Prim.Native.Nat.{ℕ}
 use lib.ListN.{length, drop}
-use Rattle.nights.specs.Net.{bit}
+use Rattle.basis.specs.Basis.{bit}
 use Rattle.nights.specs.Draws.{Decided}
 use Rattle.nights.specs.Journal.{Answer, done, refused}
 use Rattle.fates.specs.declared.Refusal.{Refusal}

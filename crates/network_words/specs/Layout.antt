@@ -5,7 +5,8 @@ use mathlib.Core.List.{List, [], _∷_}
 use lib.Dec.{leb, eqb}
 use lib.ListN.{getD}
 use Rattle.chance.specs.Probability.{goodWord}
-use Rattle.nights.specs.Net.{Options, bit}
+use Rattle.basis.specs.Basis.{bit}
+use Rattle.nights.specs.Net.{Options}
 use Rattle.network.specs.declared.Head.{Head}
 use Rattle.network.specs.declared.Network.{Network}
 use Rattle.fates.specs.Options.{plainOptions, structOptions, perfectOptions}

@@ -16,11 +16,11 @@ ghost use Prim.Native.Nat.{ℕ};
 ghost use lib.Dec.{eqb};
 ghost use lib.ListN.{length, drop, replicate};
 ghost use Rattle.nights.specs.Record.{wordsOf};
-ghost use Rattle.nights.specs.Net.{keep, isDue, goodOptions, send, take, choose, bit};
+ghost use Rattle.basis.specs.Basis.{bit};
+ghost use Rattle.nights.specs.Net.{keep, isDue, goodOptions, send, take, choose};
 ghost use Rattle.nights.specs.Draws.{decided};
 ghost use Rattle.nights.specs.Journal.{verdict, optionTests};
 ghost use Rattle.fates.specs.Answers.{number};
-ghost use Rattle.network.specs.Answers.{sending};
 ghost use Rattle.network.specs.Forms.{plainOf, letterOf};
 ghost use Rattle.fates.specs.Options.{plainOptions};
 ghost use Rattle.network.specs.Calls.{written};
@@ -91,12 +91,6 @@ pub fn number_of(refusal: Refusal) -> u64
         Refusal::NoJournalRoom => 32,
         Refusal::TooFarBack => 33,
     }
-}
-
-pub fn flag_word(flag: bool) -> u64
-    ensures { λ r. ⌜ r ≡ bit flag ⌝ }
-{
-    if flag { 1 } else { 0 }
 }
 
 // A head of zeros and the perfect options.
@@ -178,7 +172,7 @@ pub fn store(head: Head, words: &mut [u64; 12])
         chance::word_of(options.packet_replay_probability),
         options.one_way_delay_min,
         options.one_way_delay_mean,
-        flag_word(options.fault_client_messages),
+        basis::flag_word(options.fault_client_messages),
         head.pending as u64,
         head.seq,
         head.sent,
@@ -214,7 +208,7 @@ fn put_options(head: &mut [u64; 12], loss: u64, replay: u64, min: u64, mean: u64
     head[REPLAY] = replay;
     head[MIN] = min;
     head[MEAN] = mean;
-    head[FLAG] = flag_word(flag != 0);
+    head[FLAG] = basis::flag_word(flag != 0);
 }
 
 // Every word is 0.
@@ -247,7 +241,7 @@ pub fn new(
         replay,
         min,
         mean,
-        flag_word(flag != 0),
+        basis::flag_word(flag != 0),
         0,
         0,
         0,
@@ -337,8 +331,8 @@ pub fn send(
         } => {
             store(sent.head, head);
             *told = [
-                flag_word(lost),
-                flag_word(replayed),
+                basis::flag_word(lost),
+                basis::flag_word(replayed),
                 drawn as u64,
                 added as u64,
             ];

@@ -1,13 +1,14 @@
 -- What every network of a run keeps: the order of its records, and that it is well formed. Assumes nothing.
-use Prim.Native.Nat.{ℕ, suc, _+_, _^_, _≤_, _<_}
+use Prim.Native.Nat.{ℕ, suc, _+_, _≤_, _<_}
 use mathlib.Core.Path.{_≡_, refl, ap}
 use mathlib.Core.List.{List, [], _∷_}
-use mathlib.Core.Bool.{Bool, true, false}
+use mathlib.Core.Bool.{Bool, true}
 use native.Mathlib.Omega.{arith}
 use borrow.Author.Tests.{le-leb, eq-eqb, ne-eqb}
 use lib.ListN.{length}
 use Rattle.nights.specs.Record.{Record}
-use Rattle.nights.specs.Net.{capacity, sentLimit, lastKind, lastSort, Options, Network, fresh, every, insertBy, insertAll, Fate, refuse, lose, once, twice, bit, dues, lostBy, replayedBy, delayedBy, Draws, Letter, copies, Plain, send, take as takes, choose, isDue, isLater, sendOne, takeDue, setOptions, effect, goodOptions, goodRecord, ahead, rising, goodCounts, wellFormed}
+use Rattle.basis.proofs.Laws.{bit-le}
+use Rattle.nights.specs.Net.{capacity, sentLimit, lastKind, lastSort, Options, Network, fresh, every, insertBy, insertAll, Fate, refuse, lose, once, twice, dues, lostBy, replayedBy, delayedBy, Draws, Letter, copies, Plain, send, take as takes, choose, isDue, isLater, sendOne, takeDue, setOptions, effect, goodOptions, goodRecord, ahead, rising, goodCounts, wellFormed}
 use Rattle.nights.specs.Journal.{allowed}
 use Rattle.nights.specs.Rule.{replay}
 use Rattle.nights.proofs.Order.{Before, All, Ordered, Newer, before-earlier, all-map, all-both, all-keep, all-insert, all-insertAll, length-split, ordered-keep, ordered-insert, length-insertAll, Unlike, Apart, apart-keep, apart-insert}
@@ -135,10 +136,6 @@ pub record Fair (f : Fate) : Type 0 where
   pub lost : lostBy f ≤ 1
   pub replayed : replayedBy f ≤ 1
   pub delayed : delayedBy f ≤ length (dues f)
-
-bit-le : (b : Bool) → bit b ≤ 1
-bit-le true = omega arith
-bit-le false = omega arith
 
 fair : (f : Fate) → allowed f ≡ true → Fair f
 unfolding replayedBy lostBy delayedBy dues

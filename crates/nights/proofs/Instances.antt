@@ -1,18 +1,18 @@
 -- The claim applied to two runs: the document's, and one with a mark, a refused call, and a rewind across a take and a second send.
 -- Of each the standing list is written out; the claim then says what the network is, and no queue is run for it.
 use Prim.Native.Nat.{ℕ, suc}
-use mathlib.Core.Path.{_≡_, refl, sym, ap, _∙_, subst}
+use mathlib.Core.Path.{_≡_, refl, sym, ap, subst}
 use mathlib.Core.Logic.{_⊎_, inl, inr}
-use mathlib.Core.List.{List, [], _∷_, _++_, List·Memᴰ as Member, List·Memᴰ·head as here, List·Memᴰ·tail as there, List·Memᴰ·cases-cons as cases-cons, List·Memᴰ·not-nil as not-nil}
-use mathlib.Core.Bool.{Bool, true, false, cond}
+use mathlib.Core.List.{List, [], _∷_, List·Memᴰ as Member, List·Memᴰ·head as here, List·Memᴰ·tail as there, List·Memᴰ·cases-cons as cases-cons, List·Memᴰ·not-nil as not-nil}
+use mathlib.Core.Bool.{true, false}
 use native.Mathlib.Omega.{arith}
 use lib.ListN.{length, getD}
 use lib.Ieee.{toBits, ofBits}
 use Rattle.nights.specs.Record.{Record, wordsOf, recs}
 use Rattle.nights.specs.Net
-use Rattle.nights.specs.Net.{Network, Plain, send, keep, every, earlier, insertBy, insertAll, dues, lostBy, replayedBy, delayedBy, copies, effect, goodOptions, goodRecord, ahead, rising, goodCounts, wellFormed}
-use Rattle.nights.specs.Journal.{Answer, done, refused, Call, plain, rewind, mark, held, used, logged, goodHeader, undoWords, undoAs, undoOne, checked, onward, undoAll, verdict, tests, settle, doPlain, rewound, doRewind, doMark, step}
-use Rattle.nights.specs.Rule.{run, log, strike, struck, stands, reach, reachBy, reached, stack, replay, flat, recorded, optionsBy, optionsRule, fateBy, fates, total, makes, made, Made, missedBy, untaken, waits, from, seqOf, Exactly, Counted, Told, Claim}
+use Rattle.nights.specs.Net.{Plain, send, keep, every, earlier, insertBy, insertAll, dues, lostBy, replayedBy, delayedBy, copies, effect, goodOptions, goodRecord, ahead, rising, goodCounts, wellFormed}
+use Rattle.nights.specs.Journal.{done, refused, Call, plain, rewind, mark, held, used, logged, goodHeader, undoWords, undoAs, undoOne, checked, onward, undoAll, verdict, tests, settle, doPlain, rewound, doRewind, doMark, step}
+use Rattle.nights.specs.Rule.{run, log, strike, struck, stands, reach, reachBy, reached, stack, replay, flat, recorded, optionsBy, fateBy, fates, makes, made, Made, missedBy, untaken, waits, from, Exactly, Told, Claim}
 use Rattle.chance.specs.Probability.{goodWord, isOne, isZero, thresholdOf}
 use Rattle.chance.specs.Draw.{byWord, genBool, genBoolInSend}
 use Rattle.nights.specs.Draws.{isFaulted, extrasFor, extraAt, dueAt, isTick, isLate, alone as aloneOf, both, afterReplay, afterLoss, decided, fateOf}

@@ -1,12 +1,13 @@
 -- A well-formed network is what the laws of calls ask of it, and so every accepted call on one leaves a well-formed one. Assumes nothing.
-use Prim.Native.Nat.{ℕ, _+_, _≤_, _<_}
+use Prim.Native.Nat.{ℕ, _+_, _≤_}
 use mathlib.Core.Path.{_≡_, refl}
 use mathlib.Core.List.{List, [], _∷_}
-use mathlib.Core.Bool.{Bool, true, false, _&&_, not}
+use mathlib.Core.Bool.{Bool, true, false, not}
 use native.Mathlib.Omega.{arith}
-use borrow.Author.Tests.{leb-true, eqb-true, eqb-false}
+use borrow.Author.Tests.{leb-true, eqb-true, eqb-false, not-true}
 use lib.Dec.{leb, eqb}
 use lib.ListN.{length}
+use Rattle.basis.proofs.Laws.{both}
 use Rattle.nights.specs.Record.{Record}
 use Rattle.nights.specs.Net.{capacity, sentLimit, lastKind, lastSort, Options, Network, fresh, every, Draws, Plain, effect, goodOptions, goodRecord, earlier, ahead, rising, goodCounts, wellFormed}
 use Rattle.nights.specs.Journal.{done, verdict, tests}
@@ -15,14 +16,6 @@ use Rattle.nights.proofs.Good.{Good, Fine, Fit, good-effect, fit-effect
 use Rattle.nights.proofs.Run.{passed-tests}
 
 -- ---- what a test that holds says
-
-pub both : (a b : Bool) → a && b ≡ true → (a ≡ true) × (b ≡ true)
-both true b e = (refl, e)
-both false b e = let z : _≡_ {A = ℕ} 0 1 = cc in absurd (omega arith)
-
-pub not-true : (b : Bool) → not b ≡ true → b ≡ false
-not-true true e = let z : _≡_ {A = ℕ} 0 1 = cc in absurd (omega arith)
-not-true false e = refl
 
 pub every-all : (p : Record → Bool) (l : List Record) → every p l ≡ true → All (λ (x : Record). p x ≡ true) l
 unfolding every

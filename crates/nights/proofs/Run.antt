@@ -2,13 +2,14 @@
 use Prim.Native.Nat.{ℕ, zero, suc, _+_, _-_, _*_, _^_, _≤_, _<_}
 use mathlib.Core.Path.{_≡_, refl, sym, ap, _∙_, subst}
 use mathlib.Core.List.{List, [], _∷_, _++_, append-assoc, append-nil, reverse, reverse-append}
-use mathlib.Core.Bool.{Bool, true, false, cond, _&&_}
+use mathlib.Core.Bool.{Bool, true, false, cond}
 use native.Mathlib.Omega.{arith}
 use native.Mathlib.Numerals.{add-one}
 use borrow.Author.Tests.{le-leb, lt-leb, leb-true, leb-false, ltb-true}
 use lib.Dec.{leb}
 use lib.ListN.{length, take, drop, length-append, length-drop}
 use lib.Seq.{take-at, drop-at, drop-append-add, drop-append-le}
+use Rattle.basis.proofs.Laws.{both}
 use Rattle.chance.specs.Probability.{goodWord}
 use Rattle.nights.specs.Record.{Record, wordsOf}
 use Rattle.nights.specs.Net.{Options, Network, keep, Fate, dues, Draws, Letter, Plain, send, take as takes, choose, isDue, effect, goodOptions, wellFormed}
@@ -84,10 +85,6 @@ passed t ts e = go (t .passes) refl e
     go true p q = (p, q)
     go false p q = let z : _≡_ {A = ℕ} 0 1 = cc in absurd (omega arith)
 
-passed-and : (a b : Bool) → a && b ≡ true → (a ≡ true) × (b ≡ true)
-passed-and true b e = (refl, e)
-passed-and false b e = let z : _≡_ {A = ℕ} 0 1 = cc in absurd (omega arith)
-
 passed-send : (m : Letter) (f : Fate) (n : Network) (more : List Test) → verdict (sendTests m f n more) ≡ done
     → PassedSend m f n × (verdict more ≡ done)
 passed-send m f n more e =
@@ -95,7 +92,7 @@ passed-send m f n more e =
     let b = passed _ _ (a .1) in
     let c = passed _ _ (b .1) in
     let d = passed _ _ (c .1) in
-    let k = passed-and (leb (m .kind) 10) (leb (m .sort) 1) (a .0) in (
+    let k = both (leb (m .kind) 10) (leb (m .sort) 1) (a .0) in (
       record {
         kind = leb-true (m .kind) 10 (k .0);
         sort = leb-true (m .sort) 1 (k .1);

@@ -1,7 +1,7 @@
 -- What a step does from any state, one that no run reaches too: refused, it changes nothing; and it leaves a well-formed network well
 -- formed, whatever the journal's words. Assumes nothing.
 use Prim.Native.Nat.{ℕ, zero, suc}
-use mathlib.Core.Path.{_≡_, refl, sym}
+use mathlib.Core.Path.{_≡_, refl}
 use mathlib.Core.List.{List, _∷_}
 use mathlib.Core.Bool.{Bool, true, false, cond}
 use native.Mathlib.Omega.{arith}

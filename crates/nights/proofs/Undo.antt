@@ -9,7 +9,8 @@ use lib.Dec.{leb, eqb}
 use lib.ListN.{length, getD, drop, length-append}
 use lib.Seq.{getD-append-add}
 use Rattle.nights.specs.Record.{Record, words, wordsOf, recordAt, recs}
-use Rattle.nights.specs.Net.{Options, Network, keep, insertAll, Fate, dues, Draws, Letter, copies, Plain, send, take as takes, choose, isDue, isLater, sendOne, takeDue, setOptions, effect, bit, goodOptions}
+use Rattle.basis.specs.Basis.{bit}
+use Rattle.nights.specs.Net.{Options, Network, keep, insertAll, Fate, dues, Draws, Letter, copies, Plain, send, take as takes, choose, isDue, isLater, sendOne, takeDue, setOptions, effect, goodOptions}
 use Rattle.nights.specs.Journal.{undoWords, undone, unsend, untake, undoAs, undoOne, checked, onward, undoAll}
 use Rattle.nights.specs.Rule.{replay, flat}
 use Rattle.nights.proofs.Order.{All, all-map, length-split, keep-all, rejoin, unseen-all}

@@ -1,31 +1,12 @@
 -- `Exactly` leaves one list. Assumes nothing.
-use Prim.Native.Nat.{ℕ}
 use mathlib.Core.Path.{_≡_, refl, sym, ap₂, _∙_, subst}
 use mathlib.Core.Logic.{_⊎_, inl, inr}
 use mathlib.Core.List.{List, [], _∷_, List·Memᴰ as Member, List·Memᴰ·head as here, List·Memᴰ·tail as there, List·Memᴰ·cases-cons as cases-cons, List·Memᴰ·not-nil as not-nil, Memᴰ·cast as cast}
-use mathlib.Core.Bool.{Bool, true, false, not, _&&_}
 use native.Mathlib.Omega.{arith}
-use lib.Dec.{eqb}
 use Rattle.nights.specs.Record.{Record}
-use Rattle.nights.specs.Net.{every, ahead, rising}
 use Rattle.nights.specs.Rule.{Made, Exactly}
-use Rattle.nights.proofs.Order.{Before, sooner, tied, All, Ordered, precedes, earlier-true}
-
-both : (a b : Bool) → a && b ≡ true → (a ≡ true) × (b ≡ true)
-both true b e = (refl, e)
-both false b e = let z : _≡_ {A = ℕ} 0 1 = cc in absurd (omega arith)
-
-all-ahead : (x : Record) (l : List Record) → every (ahead x) l ≡ true → All (Before x) l
-unfolding every ahead
-all-ahead x [] e = tt
-all-ahead x (y ∷ ys) e =
-    let p = both (precedes x y && not (eqb (x .seq) (y .seq))) (every (ahead x) ys) e in
-    (earlier-true x y (both (precedes x y) (not (eqb (x .seq) (y .seq))) (p .0) .0), all-ahead x ys (p .1))
-
-ordered : (l : List Record) → rising l ≡ true → Ordered l
-unfolding rising
-ordered [] e = tt
-ordered (x ∷ xs) e = let p = both (every (ahead x) xs) (rising xs) e in (all-ahead x xs (p .0), ordered xs (p .1))
+use Rattle.nights.proofs.Order.{Before, sooner, tied, All, Ordered}
+use Rattle.nights.proofs.Kept.{ordered}
 
 never : {x y : Record} → Before x y → Before y x → ⊥
 never (sooner a) (sooner b) = omega arith

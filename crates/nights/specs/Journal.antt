@@ -1,13 +1,14 @@
 -- The journal (RULES, "Journal"): its words, the records that undo a call, and each journaled call with its refusals, which are told
 -- by their numbers. Assumes nothing.
-use Prim.Native.Nat.{ℕ, zero, suc, _+_, _-_, _*_, _^_, _/_}
+use Prim.Native.Nat.{ℕ, zero, suc, _+_, _-_, _*_, _/_}
 use mathlib.Core.List.{List, [], _∷_, _++_}
 use mathlib.Core.Bool.{Bool, true, false, cond, _&&_}
-use lib.ListN.{length, take, drop, getD}
+use lib.ListN.{length, drop, getD}
 use lib.Dec.{leb, ltb, eqb}
 use Rattle.chance.specs.Probability.{goodWord}
 use Rattle.nights.specs.Record.{Record, recordSize, wordsOf, recs}
-use Rattle.nights.specs.Net.{capacity, sentLimit, lastKind, lastSort, Options, Network, keep, insertAll, Fate, refuse, lose, once, twice, dues, Draws, Letter, Plain, send, take as takes, choose, isDue, effect, bit, wellFormed}
+use Rattle.basis.specs.Basis.{bit, laid}
+use Rattle.nights.specs.Net.{capacity, sentLimit, lastKind, lastSort, Options, Network, keep, insertAll, Fate, refuse, lose, once, twice, dues, Draws, Letter, Plain, send, take as takes, choose, isDue, effect, wellFormed}
 
 -- a call's answer
 pub data Answer : Type 0 where
@@ -42,11 +43,8 @@ used w = getD w 1 0
 abbrev pub header : ℕ → ℕ → List ℕ → List ℕ
 header c u w = c ∷ u ∷ drop 2 w
 
-abbrev pub overwrite : List ℕ → ℕ → List ℕ → List ℕ
-overwrite w at r = take at w ++ (r ++ drop (at + length r) w)
-
 unfoldable pub logged : List ℕ → List ℕ → List ℕ
-logged w r = header (held w + 1) (used w + length r) (overwrite w (used w) r)
+logged w r = header (held w + 1) (used w + length r) (laid w (used w) r)
 
 unfoldable pub goodHeader : List ℕ → Bool
 goodHeader w = leb 2 (length w) && (leb 2 (used w) && (leb (used w) (length w) && leb (2 * held w) (used w - 2)))

@@ -6,6 +6,7 @@ use mathlib.Core.List.{List, [], _∷_}
 use mathlib.Core.Bool.{Bool, true, false, cond, _&&_, not}
 use lib.ListN.{length}
 use lib.Dec.{leb, ltb, eqb}
+use Rattle.basis.specs.Basis.{bit}
 use Rattle.chance.specs.Probability.{goodWord}
 use Rattle.nights.specs.Record.{Record}
 
@@ -75,9 +76,6 @@ pub data Fate : Type 0 where
   lose : Fate
   once : (due : ℕ) (late : Bool) → Fate
   twice : (copy original : ℕ) (copyLate originalLate : Bool) → Fate
-
-abbrev pub bit : Bool → ℕ
-bit b = cond b 1 0
 
 -- the due ticks of the copies that a fate queues, in the order of their numbers; and what it adds to the counters
 unfoldable pub dues : Fate → List ℕ

@@ -3,19 +3,18 @@
 use mathlib.Core.Bool.{Bool, true, false, cond, _&&_}
 use mathlib.Core.List.{List, [], _∷_, _++_, append-assoc}
 use mathlib.Core.Path.{_≡_, refl, sym, ap, _∙_}
-use Prim.Native.Nat.{ℕ, zero, suc, _+_, _-_, _*_, _/_, _%_, _^_, _≤_, _<_}
+use Prim.Native.Nat.{ℕ, zero, suc, _+_, _-_, _/_, _%_, _^_, _≤_, _<_}
 use native.Mathlib.Nat.{pow-suc, pow-succ', div-lt-iff-lt-mul, le-div-iff-mul-le, div-div-eq-div-mul, mod-eq-of-lt, zero-lt-suc}
 use native.Mathlib.Omega.{arith}
-use native.Mathlib.Numerals.{add-one}
 use borrow.Author.Tests.{lt-ltb, le-ltb, le-leb, ltb-true, ltb-false, ne-eqb}
 use lib.Arith.{mod-mul}
-use lib.Dec.{leb, ltb, lit<}
+use lib.Dec.{ltb, lit<}
 use lib.ListN.{length, take, drop, set, length-take, length-drop, length-append, take-append-drop}
 use lib.Seq.{take-suc, set-at, length-take-le}
 use Rattle.numeral.specs.Digits.{isDigit, allDigits, valueOf, lastDigits}
 use Rattle.numeral.specs.Reading.{unsigned, isNumber, inDigits, numberOf}
 use Rattle.numeral.specs.Writing.{digitCount, decimal}
-use Rattle.numeral.specs.declared.Number.the-variants.{Value, Bad}
+use Rattle.numeral.specs.declared.Number.the-variants.{Value}
 
 pub length-lastDigits : (k n : ℕ) → length (lastDigits k n) ≡ k
 unfolding lastDigits

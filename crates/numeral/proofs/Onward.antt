@@ -2,7 +2,7 @@
 -- the digit, and once that passes 2 ^ 64 - 1 no digits behind it bring it back. Assumes nothing.
 use mathlib.Core.Bool.{Bool, true, false, cond, _&&_}
 use mathlib.Core.List.{List, [], _∷_}
-use mathlib.Core.Path.{_≡_, refl, sym, ap, _∙_}
+use mathlib.Core.Path.{_≡_, refl, ap, _∙_}
 use Prim.Native.Nat.{ℕ, zero, suc, _+_, _-_, _*_, _^_, _≤_, _<_}
 use native.Mathlib.Nat.{pow-succ', add-mul, mul-assoc, add-assoc, le-trans, le-add-right, mul-one, mul-le-mul-left}
 use native.Mathlib.Omega.{arith}

@@ -1,6 +1,6 @@
 -- The format of a number in a fault script (RULES, "Fault scripts", numbers): an optional single `+`, then one or more digits,
 -- of value at most 2 ^ 64 - 1. Leading zeros are not limited. Assumes nothing.
-use mathlib.Core.Bool.{Bool, true, false, cond, _&&_}
+use mathlib.Core.Bool.{Bool, cond, _&&_}
 use mathlib.Core.List.{List, [], _∷_}
 use mathlib.Core.Logic.{_⊎_}
 use mathlib.Core.Path.{_≡_}

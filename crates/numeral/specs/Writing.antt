@@ -1,10 +1,11 @@
 -- A number below 2 ^ 64 as plain decimal bytes, without sign or needless zeros, and what a lent slice holds once they are written
 -- into it. Assumes nothing.
 use mathlib.Core.Bool.{cond}
-use mathlib.Core.List.{List, [], _∷_, _++_}
+use mathlib.Core.List.{List}
 use Prim.Native.Nat.{ℕ, zero, suc, _+_, _/_}
 use lib.Dec.{leb, ltb}
-use lib.ListN.{length, take, drop}
+use lib.ListN.{length}
+use Rattle.basis.specs.Basis.{laid}
 use Rattle.numeral.specs.Digits.{lastDigits}
 use Rattle.numeral.specs.declared.Written.{Written}
 use Rattle.numeral.specs.declared.Written.the-variants.{Upto, NoRoom}
@@ -17,10 +18,6 @@ digitCount (suc k) n = cond (ltb n 10) 1 (suc (digitCount k (n / 10)))
 -- the digits of n, for n below 10 ^ 20
 unfoldable pub decimal : ℕ → List ℕ
 decimal n = lastDigits (digitCount 19 n) n
-
--- bytes laid over a list from a place on: what stands before them and after them stays
-abbrev pub laid : List ℕ → ℕ → List ℕ → List ℕ
-laid out place bytes = take place out ++ (bytes ++ drop (place + length bytes) out)
 
 -- the answer and the slice after writing n at a place: the place after its digits, or nothing written where they do not fit
 unfoldable pub writtenOf : ℕ → ℕ → ℕ → Written

@@ -5,7 +5,8 @@ ghost use Prim.Native.Nat.{_+_, _≤_, _<_};
 ghost use lib.ListN.{length, drop};
 ghost use Rattle.numeral.specs.Digits.{lastDigits};
 ghost use Rattle.numeral.specs.Reading.{numberOf, inDigits, withDigit};
-ghost use Rattle.numeral.specs.Writing.{digitCount, laid, writtenOf, outOf};
+ghost use Rattle.basis.specs.Basis.{laid};
+ghost use Rattle.numeral.specs.Writing.{digitCount, writtenOf, outOf};
 
 // What a word says.
 pub enum Number {

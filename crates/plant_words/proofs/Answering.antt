@@ -1,18 +1,18 @@
 -- What each call answers and leaves, by where it ends: at an unknown number, at the words' shape, at a refusal, or done. Assumes nothing.
 use Prim.Native.Nat.{ℕ, _≤_, _<_}
 use mathlib.Core.Path.{_≡_, refl, sym, ap, _∙_}
-use mathlib.Core.Bool.{true, false, cond, not}
+use mathlib.Core.Bool.{true, false}
 use mathlib.Core.List.{List, [], _∷_}
 use native.Mathlib.Omega.{arith}
 use mathlib.Core.Logic.{⊎-elim}
 use types.Run.{OneOf}
 use denote.Enum.Declared.{tagOf}
 use Rattle.plants.proofs.Outcome as outcome
-use borrow.Author.Tests.{le-leb, lt-leb, eq-eqb, ne-eqb}
-use lib.Dec.{leb, eqb}
+use borrow.Author.Tests.{le-leb, lt-leb, ne-eqb}
 use lib.ListN.{getD}
 use Rattle.plants.specs.Refusals.{refusalNumber}
-use Rattle.plants.specs.State.{plantCount, made}
+use Rattle.basis.specs.Basis.{plantCount}
+use Rattle.plants.specs.State.{made}
 use Rattle.plants.specs.Verdicts.{verdictNumber, judged}
 use Rattle.plants.specs.declared.refusal.Refusal.{Refusal}
 use Rattle.plants.specs.declared.refusal.Refusal.the-variants.{PlantCount, UnknownPlant, IllFormed, CountFull, NoNonce, BadFlags, TooFewPicks, PickOutOfRange, TooFewHealthy}

@@ -8,7 +8,7 @@ use native.Mathlib.Omega.{arith}
 use lib.ListN.{length, take, drop, getD, length-append}
 use lib.Seq.{take-at, drop-at, drop-drop, getD-drop}
 use Rattle.script.specs.Faults.{faultNumber}
-use Rattle.plants.specs.State.{plantCount}
+use Rattle.basis.specs.Basis.{plantCount}
 use Rattle.plants.specs.declared.Plants.{Plants}
 use Rattle.plant_words.specs.Layout.{bits, flagsIn, allBits, flagsFit, plantsIn, wordsOf, shaped, faultIn}
 use Rattle.plant_words.proofs.Walking.{length-bits}

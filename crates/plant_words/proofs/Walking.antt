@@ -2,7 +2,7 @@
 use Prim.Native.Nat.{ℕ, suc, _+_, _-_, _≤_, _<_}
 use mathlib.Core.Path.{_≡_, refl, sym, ap, _∙_}
 use mathlib.Core.Bool.{Bool, true, false, _&&_}
-use mathlib.Core.List.{List, [], _∷_, map}
+use mathlib.Core.List.{List}
 use native.Mathlib.Omega.{arith}
 use native.Mathlib.Numerals.{add-one}
 use borrow.Author.Tests.{le-leb, lt-leb}
@@ -10,7 +10,8 @@ use mir.Val.{boolByte}
 use lib.Dec.{leb, eqb}
 use lib.ListN.{length, take, drop, getD, length-take, length-drop, length-map, List·getD-map}
 use lib.Seq.{drop-cons, getD-take, getD-drop}
-use Rattle.plant_words.specs.Layout.{flagOf, flagsIn, bit, bits, allBits}
+use Rattle.basis.specs.Basis.{bit}
+use Rattle.plant_words.specs.Layout.{flagOf, flagsIn, bits, allBits}
 
 -- a part of 15
 pub length-part : (w : List ℕ) (at : ℕ) → at + 15 ≤ length w → length (take 15 (drop at w)) ≡ 15

@@ -1,12 +1,12 @@
 -- Words written one after the other over a part of a row: `paste d at s i` is the row d with the first i of s written from `at` on.
 -- Assumes nothing.
-use Prim.Native.Nat.{ℕ, _+_, _≤_, _<_}
-use mathlib.Core.Path.{_≡_, refl, sym, ap, _∙_}
+use Prim.Native.Nat.{ℕ, _+_, _<_}
+use mathlib.Core.Path.{_≡_, refl, ap, _∙_}
 use mathlib.Core.List.{List, [], _∷_, _++_, append-nil, append-assoc}
 use native.Mathlib.Omega.{arith}
 use native.Mathlib.Numerals.{add-one}
 use lib.ListN.{length, take, drop, getD, set, length-append, drop-of-length-le}
-use lib.Seq.{paste, paste-zero, paste-suc, take-all, take-at, length-take-le}
+use lib.Seq.{paste, paste-zero, paste-suc, take-all, take-at}
 
 module _ {A : Type 0} where
   -- one word more: where it goes, and what it is

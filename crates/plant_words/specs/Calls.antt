@@ -1,7 +1,7 @@
 -- Each call over lent words: the words in, the same call's definition, the words out. The answer is 0 or a refusal's number, and then
 -- every word is as it came. A fault over 5 is 5 and a sender's sort over 1 is 24, before the state is looked at. Assumes nothing.
 use Prim.Native.Nat.{ℕ}
-use mathlib.Core.Bool.{Bool, cond, not}
+use mathlib.Core.Bool.{cond, not}
 use mathlib.Core.List.{List, [], _∷_}
 use lib.Dec.{leb, eqb}
 use Rattle.plants.specs.Refusals.{refusalNumber}

@@ -7,7 +7,7 @@ use lib.Dec.{leb, eqb}
 use lib.ListN.{getD, take, drop}
 use Rattle.script.specs.declared.fault.Fault.{Fault}
 use Rattle.script.specs.declared.fault.Fault.the-variants.{Crash, Restart, Reboot, Partition, Heal, HealAll}
-use Rattle.plants.specs.State.{plantCount}
+use Rattle.basis.specs.Basis.{plantCount, bit}
 use Rattle.plants.specs.declared.Plants.{Plants}
 use Rattle.plants.specs.declared.Origin.{Origin}
 use Rattle.plants.specs.declared.Origin.the-variants.{Replica, Client}
@@ -18,9 +18,6 @@ flagOf w = eqb w 1
 
 unfoldable pub flagsIn : List ℕ → List Bool
 flagsIn ws = map flagOf ws
-
-abbrev pub bit : Bool → ℕ
-bit b = cond b 1 0
 
 unfoldable pub bits : List Bool → List ℕ
 bits fs = map bit fs

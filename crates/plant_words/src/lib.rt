@@ -12,7 +12,7 @@ use plants::refusal::Refusal;
 use plants::refusal::Test;
 use script::fault::Fault;
 ghost use mathlib.Core.Path.{_≡_};
-ghost use mathlib.Core.List.{List, [], _∷_, _++_};
+ghost use mathlib.Core.List.{[], _∷_, _++_};
 ghost use Prim.Native.Nat.{_+_, _≤_};
 ghost use lib.ListN.{length, take, drop};
 ghost use Rattle.plant_words.specs.Layout.{flagsIn, flagsFit, ticksIn, plantsIn, wordsOf, bits, shaped, faultIn, originIn};
@@ -75,7 +75,7 @@ fn flags_at(words: &[u64; 49], at: usize) -> [bool; 15]
 {
     let mut flags = [false; 15];
     let mut i: usize = 0;
-    while i < plants::MOST {
+    while i < basis::MOST {
         flags[i] = words[at + i] == 1;
         i += 1;
     }
@@ -89,7 +89,7 @@ fn ticks_of(words: &[u64; 49]) -> [u64; 15]
 {
     let mut ticks = [0u64; 15];
     let mut i: usize = 0;
-    while i < plants::MOST {
+    while i < basis::MOST {
         ticks[i] = words[STABLE + i];
         i += 1;
     }
@@ -136,7 +136,7 @@ fn put_flags(words: &mut [u64; 49], at: usize, flags: &[bool; 15])
     ensures { λ _. ⌜ now (words .exit) ≡ take at (now (words .entry)) ++ (bits (now (flags .entry)) ++ drop (at + 15) (now (words .entry))) ⌝ }
 {
     let mut i: usize = 0;
-    while i < plants::MOST {
+    while i < basis::MOST {
         let flag = flags[i];
         words[at + i] = flag as u64;
         i += 1;
@@ -149,7 +149,7 @@ fn put_ticks(words: &mut [u64; 49], ticks: &[u64; 15])
     ensures { λ _. ⌜ now (words .exit) ≡ take 31 (now (words .entry)) ++ (now (ticks .entry) ++ drop 46 (now (words .entry))) ⌝ }
 {
     let mut i: usize = 0;
-    while i < plants::MOST {
+    while i < basis::MOST {
         let tick = ticks[i];
         words[STABLE + i] = tick;
         i += 1;
@@ -177,10 +177,10 @@ fn shape(words: &[u64; 49]) -> u64
     ensures { λ r. ⌜ r ≡ shaped (now (words .entry)) ⌝ }
 {
     let n = words[0];
-    if n < plants::FEWEST as u64 {
+    if n < basis::FEWEST as u64 {
         return Refusal::PlantCount.number();
     }
-    if (plants::MOST as u64) < n {
+    if (basis::MOST as u64) < n {
         return Refusal::PlantCount.number();
     }
     if flags_fit(words) {
@@ -301,7 +301,7 @@ fn put_core(told: &mut [u64; 17], size: usize, used: usize, core: &[u64; 15])
     told[0] = size as u64;
     told[1] = used as u64;
     let mut i: usize = 0;
-    while i < plants::MOST {
+    while i < basis::MOST {
         let id = core[i];
         told[2 + i] = id;
         i += 1;

@@ -1,4 +1,4 @@
--- Flags walked one by one, counts that rise by one at most, and the plant that a fault names. Assumes nothing.
+-- Flags walked one by one, and the plant that a fault names. Assumes nothing.
 use mathlib.Core.Bool.{Bool, true, false}
 use mathlib.Core.List.{List, _∷_, _++_}
 use mathlib.Core.Path.{_≡_, refl, sym, ap, _∙_}
@@ -12,15 +12,12 @@ use lib.Seq.{drop-cons}
 use Rattle.script.specs.Faults.{needsId, faultId}
 use Rattle.script.specs.declared.fault.Fault.{Fault}
 use Rattle.script.specs.declared.fault.Fault.the-variants.{Crash, Restart, Reboot, Partition, Heal, HealAll}
-use Rattle.plants.specs.State.{most, noneSet, tested}
-use Rattle.plants.specs.Faults.{counted, knows}
+use Rattle.basis.specs.Basis.{most}
+use Rattle.plants.specs.State.{noneSet, tested}
+use Rattle.plants.specs.Faults.{knows}
 use Rattle.plants.specs.declared.Plants.{Plants}
 use Rattle.plants.specs.declared.refusal.Test.the-variants.{Passed}
 use Rattle.plants.proofs.Testing.{bounds}
-
-pub at-most-one : (holds : Bool) (n : ℕ) → n ≡ counted holds → n ≤ 1
-at-most-one true n e = omega arith
-at-most-one false n e = omega arith
 
 -- one flag more set, of those at the front
 set-next : (n k : ℕ) → set (replicate n true ++ replicate (suc k) false) n true ≡ replicate (suc n) true ++ replicate k false

@@ -11,7 +11,9 @@ use lib.Seq.{drop-set-lt, drop-at}
 use Rattle.script.specs.declared.fault.Fault.{Fault}
 use Rattle.script.specs.declared.fault.Fault.the-variants.{Crash, Restart, Reboot, Partition, Heal, HealAll}
 use Rattle.plants.specs.Refusals.{must, _then_}
-use Rattle.plants.specs.State.{fewest, most, fresh, noneSet, countsFit, wellFormed, tested}
+use Rattle.basis.specs.Basis.{fewest, most}
+use Rattle.basis.proofs.Laws.{both, not-few}
+use Rattle.plants.specs.State.{fresh, noneSet, countsFit, wellFormed, tested}
 use Rattle.plants.specs.Faults.{after, knows, hasNonce, faultTested, appliedIf, applied}
 use Rattle.plants.specs.Verdicts.{verdictTested, judgedIf, judged}
 use Rattle.plants.specs.declared.Plants.{Plants}
@@ -21,7 +23,7 @@ use Rattle.plants.specs.declared.refusal.Refusal.{Refusal}
 use Rattle.plants.specs.declared.refusal.Refusal.the-variants.{UnknownPlant, CountFull, NoNonce}
 use Rattle.plants.specs.declared.refusal.Test.{Test}
 use Rattle.plants.specs.declared.refusal.Test.the-variants.{Passed, Failed}
-use Rattle.plants.proofs.Testing.{both, both-pass, holds, not-few, good, by-counts, count-holds, form-holds}
+use Rattle.plants.proofs.Testing.{both-pass, holds, good, by-counts, count-holds, form-holds}
 use Rattle.plants.proofs.Applying.{nonce-missing}
 
 -- ---- what an accepted fault passed

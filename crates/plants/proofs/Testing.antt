@@ -1,23 +1,20 @@
 -- Tests in an order, taken apart: what a test that passed says, and what a state that passed its tests is. Assumes nothing.
 use mathlib.Core.Bool.{Bool, true, false, _&&_}
 use mathlib.Core.Path.{_≡_, refl}
-use Prim.Native.Nat.{ℕ, _≤_, _<_}
+use Prim.Native.Nat.{ℕ, _≤_}
 use native.Mathlib.Omega.{arith}
-use borrow.Author.Tests.{le-leb, lt-leb, leb-true}
+use borrow.Author.Tests.{leb-true}
 use lib.Dec.{leb}
 use lib.ListN.{drop}
 use Rattle.plants.specs.Refusals.{must, _then_}
-use Rattle.plants.specs.State.{fewest, most, limit, plantCount, noneSet, countsFit, wellFormed, tested}
+use Rattle.basis.specs.Basis.{fewest, most, plantCount}
+use Rattle.basis.proofs.Laws.{both, between}
+use Rattle.plants.specs.State.{limit, noneSet, countsFit, wellFormed, tested}
 use Rattle.plants.specs.declared.Plants.{Plants}
 use Rattle.plants.specs.declared.refusal.Refusal.{Refusal}
 use Rattle.plants.specs.declared.refusal.Refusal.the-variants.{PlantCount, IllFormed}
 use Rattle.plants.specs.declared.refusal.Test.{Test}
 use Rattle.plants.specs.declared.refusal.Test.the-variants.{Passed, Failed}
-
--- both of two tests that hold
-pub both : (a b : Bool) → (a && b) ≡ true → (a ≡ true) × (b ≡ true)
-both true b e = (refl, e)
-both false b e = let z : _≡_ {A = ℕ} 0 1 = cc in absurd (omega arith)
 
 -- both of two tests in order pass if the whole does
 pub both-pass : (t u : Test) → (t then u) ≡ Passed → (t ≡ Passed) × (u ≡ Passed)
@@ -27,21 +24,6 @@ both-pass (Failed r) u e = let z : _≡_ {A = ℕ} 0 1 = cc in absurd (omega ari
 pub holds : (b : Bool) (r : Refusal) → must b r ≡ Passed → b ≡ true
 holds true r e = refl
 holds false r e = let z : _≡_ {A = ℕ} 0 1 = cc in absurd (omega arith)
-
--- the number of plants, with the code's test of its upper end
-pub too-few : (n : ℕ) → n < fewest → plantCount n ≡ false
-unfolding plantCount
-too-few n h = rw (lt-leb fewest n h)
-
-pub not-few : (n : ℕ) → fewest ≤ n → plantCount n ≡ leb n most
-unfolding plantCount
-not-few n h = rw (le-leb fewest n h)
-
-pub between : (n : ℕ) → plantCount n ≡ true → (fewest ≤ n) × (n ≤ most)
-unfolding plantCount
-between n e =
-    let h = both (leb fewest n) (leb n most) e in
-    (leb-true _ _ (h .0), leb-true _ _ (h .1))
 
 -- ---- a state by its tests
 module _ (s : Plants) where

@@ -8,7 +8,8 @@ use lib.ListN.{getD, set, replicate}
 use Rattle.script.specs.declared.fault.Fault.{Fault}
 use Rattle.script.specs.declared.fault.Fault.the-variants.{Crash, Restart, Reboot, Partition, Heal, HealAll}
 use Rattle.plants.specs.Refusals.{must, _then_}
-use Rattle.plants.specs.State.{most, tested, countsFit}
+use Rattle.basis.specs.Basis.{most, bit}
+use Rattle.plants.specs.State.{tested, countsFit}
 use Rattle.plants.specs.declared.Plants.{Plants}
 use Rattle.plants.specs.declared.Next.{Next}
 use Rattle.plants.specs.declared.Outcome.{Outcome}
@@ -16,11 +17,6 @@ use Rattle.plants.specs.declared.Outcome.the-variants.{Done, Nonce, Refu
 use Rattle.plants.specs.declared.refusal.Refusal.the-variants.{UnknownPlant, CountFull, NoNonce}
 use Rattle.plants.specs.declared.refusal.Test.{Test}
 use Rattle.plants.specs.declared.refusal.Test.the-variants.{Passed, Failed}
-
--- one more if it holds
-abbrev pub counted : Bool → ℕ
-counted true = 1
-counted false = 0
 
 -- whether a plant is up
 abbrev pub isUp : Plants → ℕ → Bool
@@ -54,8 +50,8 @@ parted s flags =
 
 -- the plants after a fault at a tick
 unfoldable pub after : Plants → ℕ → Fault → Plants
-after s tick (Crash i) = turned s i false tick (s .crashes + counted (isUp s i)) (s .restarts) (s .reboots)
-after s tick (Restart i) = turned s i true tick (s .crashes) (s .restarts + counted (not (isUp s i))) (s .reboots)
+after s tick (Crash i) = turned s i false tick (s .crashes + bit (isUp s i)) (s .restarts) (s .reboots)
+after s tick (Restart i) = turned s i true tick (s .crashes) (s .restarts + bit (not (isUp s i))) (s .reboots)
 after s tick (Reboot i) = turned s i true tick (s .crashes) (s .restarts + 1) (s .reboots + 1)
 after s tick (Partition i) = parted s (set (s .partitioned) i true)
 after s tick (Heal i) = parted s (set (s .partitioned) i false)

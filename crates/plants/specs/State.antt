@@ -5,6 +5,7 @@ use mathlib.Core.List.{List, [], _∷_, _++_}
 use Prim.Native.Nat.{ℕ, _-_, _^_}
 use lib.Dec.{leb}
 use lib.ListN.{drop, replicate}
+use Rattle.basis.specs.Basis.{most, plantCount}
 use Rattle.plants.specs.Refusals.{must, _then_}
 use Rattle.plants.specs.declared.Plants.{Plants}
 use Rattle.plants.specs.declared.Next.{Next}
@@ -12,19 +13,9 @@ use Rattle.plants.specs.declared.Outcome.the-variants.{Done, Refused}
 use Rattle.plants.specs.declared.refusal.Refusal.the-variants.{PlantCount, IllFormed}
 use Rattle.plants.specs.declared.refusal.Test.{Test}
 
--- the fewest plants, the most, and the most that a count may be
-abbrev pub fewest : ℕ
-fewest = 3
-
-abbrev pub most : ℕ
-most = 15
-
+-- the most that a count may be
 abbrev pub limit : ℕ
 limit = 2 ^ 62
-
--- n is 3 to 15
-unfoldable pub plantCount : ℕ → Bool
-plantCount n = leb fewest n && leb n most
 
 -- no flag is set
 unfoldable pub noneSet : List Bool → Bool

@@ -2,6 +2,7 @@
 // is due reaches its plant. Plants are the Rust's replicas.
 pub mod refusal;
 
+use basis::MOST;
 use refusal::Refusal;
 use refusal::Test;
 use script::fault::Fault;
@@ -10,14 +11,9 @@ ghost use mathlib.Core.Bool.{true, false};
 ghost use mathlib.Core.List.{_++_};
 ghost use Prim.Native.Nat.{_-_, _≤_, _<_};
 ghost use lib.ListN.{length, drop, replicate, set};
-ghost use Rattle.plants.specs.State.{limit, fresh, made, plantCount, tested, countsFit, noneSet};
-ghost use Rattle.plants.specs.Faults.{after, applied, answered, counted, knows, parted};
+ghost use Rattle.plants.specs.State.{limit, fresh, made, tested, countsFit, noneSet};
+ghost use Rattle.plants.specs.Faults.{after, applied, answered, knows, parted};
 ghost use Rattle.plants.specs.Verdicts.{verdictNumber, verdictBy, judged};
-
-// The fewest plants, and the most.
-pub const FEWEST: usize = 3;
-
-pub const MOST: usize = 15;
 
 // The most that a count may be, 2^62: so a count that rises by a few never wraps.
 pub const LIMIT: u64 = 4611686018427387904;
@@ -83,26 +79,6 @@ impl Verdict {
     }
 }
 
-// One more if it holds.
-fn count(holds: bool) -> u64
-    ensures { λ r. ⌜ r ≡ counted holds ⌝ }
-{
-    if holds {
-        return 1;
-    }
-    0
-}
-
-// Whether there may be n plants.
-fn plant_count(n: usize) -> bool
-    ensures { λ r. ⌜ r ≡ plantCount n ⌝ }
-{
-    if n < FEWEST {
-        return false;
-    }
-    n <= MOST
-}
-
 // Whether no flag is set from a place on.
 fn none_set(flags: &[bool; 15], from: usize) -> bool
     requires { ⌜ (length (now flags) ≡ 15) × (from ≤ 15) ⌝ }
@@ -166,7 +142,7 @@ impl Plants {
     pub fn new(n: usize) -> Next
         ensures { λ r. ⌜ r ≡ made n ⌝ }
     {
-        if !plant_count(n) {
+        if !basis::plant_count(n) {
             return Next {
                 plants: Plants::fresh(0),
                 outcome: Outcome::Refused(Refusal::PlantCount),
@@ -200,7 +176,7 @@ impl Plants {
         ensures { λ r. ⌜ r ≡ tested self ⌝ }
     {
         let n = self.n;
-        if !plant_count(n) {
+        if !basis::plant_count(n) {
             return Test::Failed(Refusal::PlantCount);
         }
         if !none_set(&self.up, n) {
@@ -246,7 +222,7 @@ impl Plants {
     {
         let mut me = self;
         let was_up = me.up[id];
-        me.crashes = me.crashes + count(was_up);
+        me.crashes = me.crashes + basis::flag_word(was_up);
         me.up[id] = false;
         me.stable_until[id] = tick;
         me
@@ -259,7 +235,7 @@ impl Plants {
     {
         let mut me = self;
         let was_up = me.up[id];
-        me.restarts = me.restarts + count(!was_up);
+        me.restarts = me.restarts + basis::flag_word(!was_up);
         me.up[id] = true;
         me.stable_until[id] = tick;
         me

@@ -25,26 +25,29 @@ ghost use lib.ListN.{length};
 // The words of the longest case.
 const LONGEST: usize = 104;
 
-// How often each outcome was met, by what is expected.
-pub struct Tally {
-    pub cases: u64,
-    // Cases answered otherwise, and a list that ends within a case.
-    pub differing: u64,
-    // Fresh plants.
-    pub made: u64,
-    // At twice a fault's number those that leave every flag, and then those that change one.
-    pub faults: [u64; 12],
-    // At twice a verdict's number those on a plant's message, and then those on a client's.
-    pub verdicts: [u64; 6],
-    // Picked cores, and full ones.
-    pub cores: [u64; 2],
-    // Cores by their size.
-    pub sizes: [u64; 16],
-    // Refused, from 40 on.
-    pub refused: [u64; 9],
-    // Any other.
-    pub other: u64,
-}
+// Where each outcome is counted, by what is expected and in the order in which they are printed: cases; those answered otherwise, and a
+// list that ends within a case; fresh plants; at twice a fault's number those that leave every flag, and then those that change one; at
+// twice a verdict's number those on a plant's message, and then those on a client's; picked cores and full ones; cores by their size,
+// from 2 on; refusals, from 40 on; and any other.
+const CASES: usize = 0;
+
+const DIFFERING: usize = 1;
+
+const MADE: usize = 2;
+
+const FAULTS: usize = 3;
+
+const VERDICTS: usize = 15;
+
+const CORES: usize = 21;
+
+const SIZES: usize = 23;
+
+const REFUSED: usize = 37;
+
+const OTHER: usize = 46;
+
+pub const COUNTS: usize = 47;
 
 // An answer, as a case tells it.
 pub struct Answer {
@@ -53,123 +56,7 @@ pub struct Answer {
     pub used: u64,
 }
 
-// One more. No list is long enough to wrap.
-fn one_more(n: u64) -> u64 {
-    std::num::wrapping_add_u64(n, 1)
-}
-
-impl Tally {
-    pub fn new() -> Tally {
-        Tally {
-            cases: 0,
-            differing: 0,
-            made: 0,
-            faults: [0u64; 12],
-            verdicts: [0u64; 6],
-            cores: [0u64; 2],
-            sizes: [0u64; 16],
-            refused: [0u64; 9],
-            other: 0,
-        }
-    }
-
-    // With one difference more.
-    fn differs(self) -> Tally {
-        let mut next = self;
-        next.differing = one_more(next.differing);
-        next
-    }
-
-    fn meets_other(self) -> Tally {
-        let mut next = self;
-        next.other = one_more(next.other);
-        next
-    }
-
-    fn meets_made(self) -> Tally {
-        let mut next = self;
-        next.made = one_more(next.made);
-        next
-    }
-
-    fn meets_refusal(self, number: u64) -> Tally {
-        if number < 40 {
-            return self.meets_other();
-        }
-        if 48 < number {
-            return self.meets_other();
-        }
-        let mut next = self;
-        let place = (number - 40) as usize;
-        let count = next.refused[place];
-        next.refused[place] = one_more(count);
-        next
-    }
-
-    fn meets_fault(self, fault: u64, changes: bool) -> Tally {
-        if 5 < fault {
-            return self.meets_other();
-        }
-        let mut next = self;
-        let place = 2 * fault as usize + place_of(changes);
-        let count = next.faults[place];
-        next.faults[place] = one_more(count);
-        next
-    }
-
-    fn meets_verdict(self, number: u64, client: bool) -> Tally {
-        if 2 < number {
-            return self.meets_other();
-        }
-        let mut next = self;
-        let place = 2 * number as usize + place_of(client);
-        let count = next.verdicts[place];
-        next.verdicts[place] = one_more(count);
-        next
-    }
-
-    fn meets_core(self, size: u64, full: bool) -> Tally {
-        if 15 < size {
-            return self.meets_other();
-        }
-        let mut next = self;
-        let place = size as usize;
-        let count = next.sizes[place];
-        next.sizes[place] = one_more(count);
-        let sort = place_of(full);
-        let sorted = next.cores[sort];
-        next.cores[sort] = one_more(sorted);
-        next
-    }
-
-    // With what a case expects.
-    fn meets(self, case: [u64; 104]) -> Tally {
-        if case[22] == 2 {
-            return self.meets_refusal(case[23]);
-        }
-        let call = case[0];
-        if call == 1 {
-            return self.meets_made();
-        }
-        if call == 2 {
-            return self.meets_fault(case[25], changes_flags(case));
-        }
-        if call == 3 {
-            return self.meets_verdict(case[23], case[25] == 1);
-        }
-        if call == 4 {
-            return self.meets_core(case[23], case[25] == 1);
-        }
-        self.meets_other()
-    }
-
-    // With one case more.
-    fn met(self, case: [u64; 104]) -> Tally {
-        let mut next = self.meets(case);
-        next.cases = one_more(next.cases);
-        next
-    }
-}
+// ---- What is counted
 
 // The second of two places if it holds.
 fn place_of(holds: bool) -> usize
@@ -189,28 +76,64 @@ fn changes_flags(case: [u64; 104]) -> bool {
     case[3] != case[33]
 }
 
-fn wide(b: u8) -> u64
-    ensures { λ r. ⌜ r ≤ 255 ⌝ }
-{
-    b as u64
+fn refusal_place(number: u64) -> usize {
+    if number < 40 {
+        return OTHER;
+    }
+    if 48 < number {
+        return OTHER;
+    }
+    REFUSED + (number - 40) as usize
 }
 
-// A number from four bytes.
-fn half(list: &[u8], at: usize) -> u64
-    requires { ⌜ at + 4 ≤ length (now list) ⌝ }
-    ensures { λ r. ⌜ r ≤ 4294967295 ⌝ }
-{
-    let low = wide(list[at]) + 256 * wide(list[at + 1]);
-    let high = wide(list[at + 2]) + 256 * wide(list[at + 3]);
-    low + 65536 * high
+fn fault_place(fault: u64, changes: bool) -> usize {
+    if 5 < fault {
+        return OTHER;
+    }
+    FAULTS + 2 * fault as usize + place_of(changes)
 }
 
-// A word from eight bytes.
-fn word(list: &[u8], at: usize) -> u64
-    requires { ⌜ at + 8 ≤ length (now list) ⌝ }
-{
-    half(list, at) + 4294967296 * half(list, at + 4)
+fn verdict_place(number: u64, client: bool) -> usize {
+    if 2 < number {
+        return OTHER;
+    }
+    VERDICTS + 2 * number as usize + place_of(client)
 }
+
+fn size_place(size: u64) -> usize {
+    if size < 2 {
+        return OTHER;
+    }
+    if 15 < size {
+        return OTHER;
+    }
+    SIZES + (size - 2) as usize
+}
+
+// Where the outcome that a case expects is counted.
+fn outcome(case: [u64; 104]) -> usize {
+    if case[22] == 2 {
+        return refusal_place(case[23]);
+    }
+    let call = case[0];
+    match call {
+        1 => MADE,
+        2 => fault_place(case[25], changes_flags(case)),
+        3 => verdict_place(case[23], case[25] == 1),
+        4 => size_place(case[23]),
+        _ => OTHER,
+    }
+}
+
+// Counts a case, and a core besides as picked or full.
+fn meet(counts: &mut [u64], case: [u64; 104]) {
+    tape::count(counts, CASES);
+    tape::count(counts, outcome(case));
+    let chosen = case[0] == 4 && case[22] != 2;
+    tape::count_if(counts, chosen, CORES + place_of(case[25] == 1));
+}
+
+// ---- A case
 
 // The words of a case, and zeros.
 fn case_at(list: &[u8], at: usize, count: usize) -> [u64; 104]
@@ -219,7 +142,7 @@ fn case_at(list: &[u8], at: usize, count: usize) -> [u64; 104]
     let mut words = [0u64; 104];
     let mut i: usize = 0;
     while i < count {
-        words[i] = word(list, at + 8 * i);
+        words[i] = tape::word(list, at + 8 * i);
         i += 1;
     }
     words
@@ -265,7 +188,7 @@ fn bits_of(flags: [bool; 15]) -> u64 {
         i -= 1;
         bits = std::num::wrapping_add_u64(bits, bits);
         if flags[i] {
-            bits = one_more(bits);
+            bits = std::num::wrapping_add_u64(bits, 1);
         }
     }
     bits
@@ -517,47 +440,30 @@ pub fn agrees(case: [u64; 104]) -> bool {
     false
 }
 
-// One case: the tally with it, and where the next case begins.
-pub struct Turn {
-    pub tally: Tally,
-    pub next: usize,
-}
-
-// Replays the case at a place. A case that passes the end counts as a difference and ends the list.
-fn replay_case(list: &[u8], at: usize, tally: Tally) -> Turn
+// Replays the case at a place and answers where the next one begins. A case that passes the end counts as a difference and ends the list.
+fn replay_case(list: &[u8], at: usize, counts: &mut [u64]) -> usize
     requires { ⌜ at + 8 ≤ length (now list) ⌝ }
-    ensures { λ r. ⌜ (at + 8 ≤ r .next) × (r .next ≤ length (now (list .entry))) ⌝ }
+    ensures { λ r. ⌜ (at + 8 ≤ r) × (r ≤ length (now (list .entry))) ⌝ }
 {
-    let size = size_of(word(list, at));
+    let size = size_of(tape::word(list, at));
     if list.len() - at < 8 * size {
-        return Turn {
-            tally: tally.differs(),
-            next: list.len(),
-        };
+        tape::count(counts, DIFFERING);
+        return list.len();
     }
     let case = case_at(list, at, size);
-    let next = at + 8 * size;
-    let met = tally.met(case);
-    if agrees(case) {
-        return Turn { tally: met, next };
-    }
-    Turn {
-        tally: met.differs(),
-        next,
-    }
+    meet(counts, case);
+    tape::count_if(counts, !agrees(case), DIFFERING);
+    at + 8 * size
 }
 
-// Replays a list.
-pub fn replay(list: &[u8]) -> Tally {
-    let mut tally = Tally::new();
+// Replays a list to its end.
+pub fn replay(list: &[u8], counts: &mut [u64]) {
     let mut at: usize = 0;
     while at < list.len() {
         if list.len() - at < 8 {
-            return tally.differs();
+            tape::count(counts, DIFFERING);
+            return;
         }
-        let done = replay_case(list, at, tally);
-        tally = done.tally;
-        at = done.next;
+        at = replay_case(list, at, counts);
     }
-    tally
 }

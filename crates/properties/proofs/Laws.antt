@@ -20,7 +20,8 @@ use Rattle.verdicts.proofs.First.{then-pass, test-holds, first-pass}
 use Rattle.commits.specs.Commits.{commitNumbers}
 use Rattle.agreement.specs.Agreement.{canonicalEntry, agrees}
 use Rattle.duplicates.specs.Duplicates.{idOf}
-use Rattle.durability.specs.Durability.{quorum, holdsCopy}
+use Rattle.basis.specs.Basis.{quorum}
+use Rattle.durability.specs.Durability.{holdsCopy}
 use Rattle.durability.proofs.Quorums.{in-every-quorum}
 use Rattle.convergence.proofs.Exactly.{Alike, exactly}
 use Rattle.remembering.specs.Remembering.{lengthAfter, remembered}

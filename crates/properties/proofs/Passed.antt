@@ -3,7 +3,8 @@ use mathlib.Core.List.{List}
 use mathlib.Core.Path.{_≡_}
 use Prim.Native.Nat.{ℕ}
 use Rattle.snapshots.specs.Cluster.{clusterIn}
-use Rattle.snapshots.specs.Fits.{plantCount, snapshotFits, trackerFits}
+use Rattle.basis.specs.Basis.{plantCount}
+use Rattle.snapshots.specs.Fits.{snapshotFits, trackerFits}
 use Rattle.snapshots.specs.Shape.{Snapshot, Tracked, Forward}
 use Rattle.snapshots.proofs.Known.{snapshot-known, tracker-known}
 use Rattle.verdicts.specs.Verdicts.{andThen, unless}

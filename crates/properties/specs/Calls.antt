@@ -7,7 +7,8 @@ use lib.Dec.{ltb, eqb}
 use lib.IntN.{ℤ}
 use lib.ListN.{length, set, replicate}
 use Rattle.snapshots.specs.Cluster.{clusterIn}
-use Rattle.snapshots.specs.Fits.{plantCount, snapshotFits, trackerFits}
+use Rattle.basis.specs.Basis.{plantCount}
+use Rattle.snapshots.specs.Fits.{snapshotFits, trackerFits}
 use Rattle.snapshots.specs.Layout.{lastAt, trackerWords}
 use Rattle.verdicts.specs.Verdicts.{andThen, unless, onPass}
 use Rattle.convergence.specs.Convergence.{converged}

@@ -23,7 +23,7 @@ pub fn fresh(n: usize, tracker: &mut [u64]) -> Answer
     ensures answer { λ r. ⌜ r ≡ freshAnswer n (length (now (tracker .entry))) ⌝ }
     ensures words { λ r. ⌜ now (tracker .exit) ≡ freshWords n (now (tracker .entry)) ⌝ }
 {
-    if !snapshots::plant_count(n) {
+    if !basis::plant_count(n) {
         return Answer::Refused(Refusal::PlantCount);
     }
     if tracker.len() != snapshots::tracker_words(n) {
@@ -39,7 +39,7 @@ pub fn reboot(n: usize, id: usize, tracker: &mut [u64]) -> Answer
     ensures answer { λ r. ⌜ r ≡ rebootAnswer n id (now (tracker .entry)) ⌝ }
     ensures words { λ r. ⌜ now (tracker .exit) ≡ rebootWords n id (now (tracker .entry)) ⌝ }
 {
-    if !snapshots::plant_count(n) {
+    if !basis::plant_count(n) {
         return Answer::Refused(Refusal::PlantCount);
     }
     if n <= id {
@@ -79,7 +79,7 @@ pub fn end(
 ) -> Answer
     ensures { λ r. ⌜ r ≡ endAnswer n (now (plants .entry)) (now (logs .entry)) (now (values .entry)) (now (core .entry)) (now (tracker .entry)) ⌝ }
 {
-    if !snapshots::plant_count(n) {
+    if !basis::plant_count(n) {
         return Answer::Refused(Refusal::PlantCount);
     }
     if !snapshots::snapshot_fits(n, plants, logs) {
@@ -112,7 +112,7 @@ fn clear(words: &mut [u64])
 fn tick_answer(n: usize, plants: &[u64], logs: &[u64], tracker: &[u64]) -> Answer
     ensures { λ a. ⌜ a ≡ tickAnswer n (now (plants .entry)) (now (logs .entry)) (now (tracker .entry)) ⌝ }
 {
-    if !snapshots::plant_count(n) {
+    if !basis::plant_count(n) {
         return Answer::Refused(Refusal::PlantCount);
     }
     if !snapshots::snapshot_fits(n, plants, logs) {

@@ -73,39 +73,16 @@ pub struct Told {
     pub test: u64,
 }
 
-fn wide(b: u8) -> u64
-    ensures { λ r. ⌜ r ≤ 255 ⌝ }
-{
-    b as u64
-}
-
-fn half_at(list: &[u8], at: usize) -> u64
-    requires { ⌜ at + 4 ≤ length (now list) ⌝ }
-    ensures { λ r. ⌜ r ≤ 4294967295 ⌝ }
-{
-    let low = wide(list[at]) + 256 * wide(list[at + 1]);
-    let high = wide(list[at + 2]) + 256 * wide(list[at + 3]);
-    low + 65536 * high
-}
-
-fn word_at(list: &[u8], at: usize) -> u64
-    requires { ⌜ at + 8 ≤ length (now list) ⌝ }
-{
-    let low = half_at(list, at);
-    let high = half_at(list, at + 4);
-    low + 4294967296 * high
-}
-
 fn line_at(list: &[u8], at: usize) -> Line
     requires { ⌜ at + 64 ≤ length (now list) ⌝ }
 {
-    let kind = word_at(list, at);
-    let a = word_at(list, at + 8);
-    let b = word_at(list, at + 16);
-    let c = word_at(list, at + 24);
-    let d = word_at(list, at + 32);
-    let e = word_at(list, at + 40);
-    let f = word_at(list, at + 48);
+    let kind = tape::word(list, at);
+    let a = tape::word(list, at + 8);
+    let b = tape::word(list, at + 16);
+    let c = tape::word(list, at + 24);
+    let d = tape::word(list, at + 32);
+    let e = tape::word(list, at + 40);
+    let f = tape::word(list, at + 48);
     Line {
         kind,
         a,
@@ -119,14 +96,6 @@ fn line_at(list: &[u8], at: usize) -> Line
 
 fn place(word: u64) -> usize {
     word as usize
-}
-
-// One more at a place. No list is long enough to wrap.
-fn count(counts: &mut [u64], at: usize) {
-    if at < counts.len() {
-        let before = counts[at];
-        counts[at] = std::num::wrapping_add_u64(before, 1);
-    }
 }
 
 fn put(words: &mut [u64], at: usize, word: u64) -> bool {
@@ -169,27 +138,6 @@ fn value(number: u64) -> i64 {
         4 => -9223372036854775807,
         _ => 77,
     }
-}
-
-// FNV-1a, word by word. The prime is 2^40 + 435.
-fn mixed(hash: u64, word: u64) -> u64 {
-    let h = hash ^ word;
-    let three = std::num::wrapping_add_u64(h, h << 1);
-    let nineteen = std::num::wrapping_add_u64(three, h << 4);
-    let low = std::num::wrapping_add_u64(nineteen, h << 5);
-    let middle = std::num::wrapping_add_u64(low, h << 7);
-    let high = std::num::wrapping_add_u64(middle, h << 8);
-    std::num::wrapping_add_u64(high, h << 40)
-}
-
-fn hash(words: &[u64]) -> u64 {
-    let mut h: u64 = 14695981039346656037;
-    let mut k: usize = 0;
-    while k < words.len() {
-        h = mixed(h, words[k]);
-        k += 1;
-    }
-    h
 }
 
 fn in_words(answer: Answer) -> Told {
@@ -419,7 +367,7 @@ fn call_agrees(
     if !expected(line, answer) {
         return false;
     }
-    hash(tracker) == line.f
+    tape::hash_words(tracker, tape::FIRST_HASH) == line.f
 }
 
 // One line. What is lent after it.
@@ -439,15 +387,14 @@ fn replay_line(
     }
     if kind < LENT {
         if !set(line, plants, logs, values, core, tracker) {
-            count(counts, DIFFERING);
+            tape::count(counts, DIFFERING);
         }
         return lent;
     }
-    count(counts, CASES);
-    count(counts, outcome(line));
-    if !call_agrees(line, lent, plants, logs, values, core, tracker) {
-        count(counts, DIFFERING);
-    }
+    tape::count(counts, CASES);
+    tape::count(counts, outcome(line));
+    let same = call_agrees(line, lent, plants, logs, values, core, tracker);
+    tape::count_if(counts, !same, DIFFERING);
     lent
 }
 
@@ -476,7 +423,7 @@ pub fn replay(
     let mut at: usize = 0;
     while at < list.len() {
         if list.len() - at < LINE {
-            count(counts, DIFFERING);
+            tape::count(counts, DIFFERING);
             return;
         }
         let line = line_at(list, at);

@@ -5,13 +5,14 @@ use mathlib.Core.Path.{_≡_, refl}
 use mathlib.Core.List.{List, [], _∷_}
 use mathlib.Core.Bool.{Bool, true, false, cond, not, _&&_}
 use native.Mathlib.Omega.{arith}
-use borrow.Author.Tests.{ltb-true, ltb-false, lt-ltb, le-ltb, eqb-false, ne-eqb}
+use borrow.Author.Tests.{ltb-true, ltb-false, lt-ltb, le-ltb, eqb-false, ne-eqb, not-true}
 use lib.Dec.{ltb, eqb}
 use Rattle.nights.specs.Record.{Record}
 use Rattle.nights.specs.Net.{every, goodRecord, rising}
 use Rattle.nights.proofs.Order.{Before, sooner, tied, before-trans, All, Ordered, Unlike, Apart, all-map}
 use Rattle.nights.proofs.Good.{every-true, rises}
-use Rattle.nights.proofs.Kept.{both, not-true, every-all, ordered, apart, ranged}
+use Rattle.basis.proofs.Laws.{both}
+use Rattle.nights.proofs.Kept.{every-all, ordered, apart, ranged}
 use Rattle.queue.specs.Form.{mayFollow, inOrder, among, distinct}
 
 impossible : {A : Type 0} → false ≡ true → A

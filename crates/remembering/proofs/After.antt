@@ -10,7 +10,8 @@ use lib.ListN.{length, getD}
 use lib.Seq.{getD-append-add, set-getD}
 use Rattle.snapshots.specs.Below.{numbered}
 use Rattle.snapshots.specs.Cluster.{Entry, Cluster, wordsOfEntry, wordsOf, noEntry, plant, entry, last, entryIn, trackerIn, clusterIn}
-use Rattle.snapshots.specs.Layout.{entryWords, logEntries, commitAt, entryAt, lastAt, canonicalAt, seenAt, trackerWords, laid}
+use Rattle.basis.specs.Basis.{laid}
+use Rattle.snapshots.specs.Layout.{entryWords, logEntries, commitAt, entryAt, lastAt, canonicalAt, seenAt, trackerWords}
 use Rattle.snapshots.specs.Shape.{Snapshot, Tracked, Forward}
 use Rattle.snapshots.proofs.Below.{length-numbered, getD-numbered, numbered-same, max-start, max-bound, max-reaches, numbered-none}
 use Rattle.snapshots.proofs.Held.{canonical-long, canonical-held, commit-held, last-held}

@@ -5,7 +5,8 @@ use Prim.Native.Nat.{ℕ, zero, suc, _+_, _-_}
 use lib.ListN.{length}
 use Rattle.snapshots.specs.Below.{numbered, maxBelow}
 use Rattle.snapshots.specs.Cluster.{Entry, Cluster, wordsOf, plant, entry, last}
-use Rattle.snapshots.specs.Layout.{canonicalAt, seenAt, laid}
+use Rattle.basis.specs.Basis.{laid}
+use Rattle.snapshots.specs.Layout.{canonicalAt, seenAt}
 use Rattle.agreement.specs.Agreement.{canonicalEntry}
 
 -- the canonical length after a pass, and the entries appended

@@ -1,11 +1,11 @@
 -- Bytes laid over a slice from a place on: one piece after the other is one piece. Assumes nothing.
 use mathlib.Core.List.{List, _++_, append-assoc}
-use mathlib.Core.Path.{_≡_, refl, sym, ap, _∙_}
+use mathlib.Core.Path.{_≡_, sym, ap, _∙_}
 use Prim.Native.Nat.{ℕ, _+_, _≤_}
 use native.Mathlib.Omega.{arith}
 use lib.ListN.{length, take, drop, length-append, length-take, length-drop}
 use lib.Seq.{take-at, drop-at, length-take-le, drop-drop}
-use Rattle.numeral.specs.Writing.{laid}
+use Rattle.basis.specs.Basis.{laid}
 
 pub length-laid : (out : List ℕ) (place : ℕ) (b : List ℕ) → place + length b ≤ length out → length (laid out place b) ≡ length out
 length-laid out place b h = simp (length-append, length-take, length-drop) (omega arith)

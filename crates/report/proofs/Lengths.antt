@@ -1,17 +1,16 @@
 -- How long the pieces of a report are at most: 20 digits to a number, 9 bytes to a name, 66 to an event. Assumes nothing.
 use mathlib.Core.Bool.{Bool, true, false, cond}
 use mathlib.Core.List.{List, [], _∷_, _++_}
-use mathlib.Core.Path.{_≡_, refl, sym, ap, _∙_}
+use mathlib.Core.Path.{_≡_}
 use Prim.Native.Nat.{ℕ, zero, suc, _+_, _*_, _/_, _≤_}
 use native.Mathlib.Omega.{arith}
 use lib.Dec.{eqb, ltb}
 use lib.ListN.{length, length-append}
-use Rattle.numeral.specs.Digits.{lastDigits}
 use Rattle.numeral.specs.Writing.{digitCount, decimal}
 use Rattle.numeral.proofs.Decimal.{length-lastDigits}
 use Rattle.order.specs.Order.{Event}
 use Rattle.script.specs.Faults.{crash, restart, reboot, partition, heal, healAll}
-use Rattle.report.specs.Report.{numberLine, tickKey, faultKey, idKey, nameOf, faultLine, idLine, eventText, eventsText}
+use Rattle.report.specs.Report.{numberLine, tickKey, idKey, nameOf, faultLine, idLine, eventText, eventsText}
 
 count-bound : (b : Bool) (d k : ℕ) → d ≤ suc k → cond b 1 (suc d) ≤ suc (suc k)
 count-bound true d k h = omega arith

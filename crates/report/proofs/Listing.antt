@@ -4,7 +4,7 @@ use mathlib.Core.Path.{_≡_, refl, sym, ap, _∙_}
 use Prim.Native.Nat.{ℕ, zero, suc, _+_, _*_, _≤_, _<_}
 use native.Mathlib.Numerals.{add-one}
 use native.Mathlib.Omega.{arith}
-use lib.ListN.{length, take, drop, getD, length-take, length-append}
+use lib.ListN.{length, take, getD}
 use lib.Seq.{getD-take, length-take-le, take-all}
 use Rattle.order.specs.Order.{Event, wordsOf, eventsIn}
 use Rattle.order.specs.Merge.{Whole}

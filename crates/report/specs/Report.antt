@@ -1,7 +1,7 @@
 -- What the program `faults` writes (RULES, "Fault scripts"): for a script that is accepted a line `events=`, then for each event a line
 -- `tick=`, a line `fault=` and, unless it is heal-all, a line `id=`; for a refusal a line `refusal=` and a line `line=`. Each ends with a
 -- line feed. Assumes nothing.
-use mathlib.Core.Bool.{Bool, cond}
+use mathlib.Core.Bool.{cond}
 use mathlib.Core.List.{List, [], _∷_, _++_}
 use Prim.Native.Nat.{ℕ, _+_}
 use lib.Dec.{leb, eqb}

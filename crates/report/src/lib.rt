@@ -5,7 +5,8 @@ use script::Script;
 ghost use mathlib.Core.Path.{_≡_};
 ghost use Prim.Native.Nat.{_+_, _*_, _≤_};
 ghost use lib.ListN.{length, take};
-ghost use Rattle.numeral.specs.Writing.{decimal, laid};
+ghost use Rattle.basis.specs.Basis.{laid};
+ghost use Rattle.numeral.specs.Writing.{decimal};
 ghost use Rattle.order.specs.Order.{eventsIn};
 ghost use Rattle.report.specs.Report.{numberLine, nameOf, faultLine, eventText, eventsText, listed, reportOf, bytesAfter};
 
@@ -20,6 +21,13 @@ pub const ROOM: usize = 6144;
 
 // The bytes that are always enough: 28 for the line of the count, and 66 for each event.
 pub const ENOUGH: usize = 135196;
+
+// Room for every report. A program that takes it from here has its length proved.
+pub fn room() -> [u8; ENOUGH]
+    ensures { λ r. ⌜ 135196 ≡ length r ⌝ }
+{
+    [0; ENOUGH]
+}
 
 // Reads a script and writes what it says to the front of `out`.
 pub fn report(text: &[u8], out: &mut [u8]) -> Reported

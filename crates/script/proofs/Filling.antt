@@ -1,12 +1,12 @@
 -- Writing events one line after the other: the words hold the events of the lines passed, and the lines left have the others.
 -- Assumes nothing.
-use mathlib.Core.List.{List, [], _∷_, _++_, append-assoc}
-use mathlib.Core.Path.{_≡_, refl, sym, ap, _∙_}
-use Prim.Native.Nat.{ℕ, _+_, _-_, _*_, _≤_, _<_}
+use mathlib.Core.List.{List, _++_, append-assoc}
+use mathlib.Core.Path.{_≡_, sym, ap, _∙_}
+use Prim.Native.Nat.{ℕ, _+_, _-_, _*_, _≤_}
 use native.Mathlib.Omega.{arith}
-use lib.ListN.{length, take, drop, length-take, length-drop, length-append}
+use lib.ListN.{length, take, drop, length-drop, length-append}
 use lib.Seq.{take-at, drop-at, take-append-seam, drop-append-seam, take-add, drop-drop, length-take-le, take-all}
-use Rattle.numeral.specs.Writing.{laid}
+use Rattle.basis.specs.Basis.{laid}
 use Rattle.order.specs.Order.{Event, wordsOf}
 use Rattle.order.proofs.Laws.{length-wordsOf, wordsOf-append}
 

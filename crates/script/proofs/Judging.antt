@@ -1,20 +1,20 @@
 -- Going through a text line by line: what is left of it at a place, and what the lines read so far and those left say together.
 -- Assumes nothing.
 use mathlib.Core.Bool.{Bool, true, false, cond}
-use mathlib.Core.List.{List, [], _∷_, _++_, map, append-assoc}
+use mathlib.Core.List.{List, [], _∷_}
 use mathlib.Core.Logic.{_⊎_, inl, inr}
-use mathlib.Core.Path.{_≡_, refl, sym, ap, _∙_}
-use Prim.Native.Nat.{ℕ, suc, _+_, _-_, _*_, _≤_, _<_}
+use mathlib.Core.Path.{_≡_, refl, ap}
+use Prim.Native.Nat.{ℕ, suc, _+_, _-_, _≤_, _<_}
 use native.Mathlib.Nat.{eq-or-lt-of-le}
 use native.Mathlib.Numerals.{add-one}
 use native.Mathlib.Omega.{arith}
 use borrow.Author.Tests.{le-leb, lt-leb, ltb-true}
 use lib.Dec.{leb, ltb, eqb}
-use lib.ListN.{length, take, drop, length-drop, length-append}
+use lib.ListN.{length, take, drop, length-drop}
 use lib.Seq.{drop-drop, take-all}
-use Rattle.words.specs.Words.{until, linesOf}
+use Rattle.words.specs.Words.{until}
 use Rattle.script.specs.Lines.{lineSays}
-use Rattle.script.specs.Scripts.{eventsIn, eventsOf, judged, judgedLine, said}
+use Rattle.script.specs.Scripts.{eventsOf, judged, judgedLine, said}
 use Rattle.script.specs.declared.line.Line.{Line}
 use Rattle.script.specs.declared.line.Line.the-variants.{Blank, Event, Faulty}
 use Rattle.script.specs.declared.line.Refusal.{Refusal}

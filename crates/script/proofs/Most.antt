@@ -1,8 +1,8 @@
 -- How many events a text can hold: the shortest line with one, `5 heal 1`, has 8 bytes and a line feed behind it. So 65,536 bytes hold
 -- at most 7,281 of them, which the sort has room for. Assumes nothing.
-use mathlib.Core.Bool.{Bool, true, false, cond, not, _&&_}
-use mathlib.Core.List.{List, [], _∷_, _++_, map}
-use mathlib.Core.Logic.{_⊎_, inl, inr}
+use mathlib.Core.Bool.{Bool, true, false, cond, _&&_}
+use mathlib.Core.List.{List, [], _∷_, map}
+use mathlib.Core.Logic.{inl, inr}
 use mathlib.Core.Path.{_≡_, refl, sym, ap, subst, _∙_}
 use Prim.Native.Nat.{ℕ, suc, _+_, _*_, _≤_, _<_}
 use native.Mathlib.Omega.{arith}
@@ -13,8 +13,8 @@ use Rattle.numeral.specs.declared.Number.{Number}
 use Rattle.numeral.specs.declared.Number.the-variants.{Value, Bad}
 use Rattle.numeral.proofs.Laws.{sound}
 use Rattle.words.specs.Words.{isSpace, notSpace, until, cutAt, joined, linesOf, stripFront, keptBefore, stripEnd, strip, begins, wordsOf}
-use Rattle.script.specs.Faults.{needsId, withId, same, crash, restart, reboot, partition, heal, healAll, namedBy}
-use Rattle.script.specs.Lines.{withNumber, withWords, withFault, withName, withTick, ofWords, lineSays}
+use Rattle.script.specs.Faults.{needsId, same, crash, restart, reboot, partition, heal, healAll, namedBy}
+use Rattle.script.specs.Lines.{withNumber, withWords, withName, withTick, ofWords, lineSays}
 use Rattle.script.specs.Scripts.{eventsIn, eventsOf, said}
 use Rattle.script.specs.declared.fault.Fault.{Fault}
 use Rattle.script.specs.declared.fault.Fault.the-variants.{Crash, Restart, Reboot, Partition, Heal, HealAll}

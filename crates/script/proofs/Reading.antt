@@ -7,7 +7,7 @@ use Prim.Native.Nat.{ℕ, _+_, _-_, _*_, _≤_, _<_, _^_}
 use native.Mathlib.Omega.{arith}
 use lib.Dec.{ltb, eqb}
 use lib.ListN.{length, take, drop, length-drop, take-append-drop}
-use Rattle.numeral.specs.Writing.{laid}
+use Rattle.basis.specs.Basis.{laid}
 use Rattle.order.specs.Order.{wordsOf}
 use Rattle.order.specs.Order as order
 use Rattle.words.proofs.Walk.{until-in}
@@ -20,7 +20,6 @@ use Rattle.script.specs.declared.line.Refusal.{Refusal}
 use Rattle.script.specs.declared.line.Refusal.the-variants.{NoRoom}
 use Rattle.script.specs.declared.Judged.{Judged}
 use Rattle.script.specs.declared.Judged.the-variants.{Found, Stopped}
-use Rattle.script.specs.declared.Script.{Script}
 use Rattle.script.specs.declared.Script.the-variants.{Events, Refused}
 use Rattle.script.proofs.Judging.{left, lineEnd, left-all, left-none, left-step, judged-on, judged-stop}
 use Rattle.script.proofs.Filling.{written, length-written, written-all, next-within, next-left, next-written}

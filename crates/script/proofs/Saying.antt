@@ -1,20 +1,19 @@
 -- What a line says, by its first three words, each of which is empty where it is missing. Assumes nothing.
-use mathlib.Core.Bool.{Bool, true, false, cond}
+use mathlib.Core.Bool.{Bool, true, false}
 use mathlib.Core.List.{List, [], _∷_}
 use mathlib.Core.Path.{_≡_, refl, sym, ap, _∙_}
-use Prim.Native.Nat.{ℕ, suc, _<_}
+use Prim.Native.Nat.{ℕ}
 use native.Mathlib.Omega.{arith}
 use lib.ListN.{length}
 use Rattle.numeral.specs.Reading.{numberOf}
 use Rattle.numeral.specs.declared.Number.{Number}
 use Rattle.numeral.specs.declared.Number.the-variants.{Value, Bad}
-use Rattle.script.specs.Faults.{namedBy, needsId, withId}
-use Rattle.script.specs.Lines.{withNumber, withWords, withFault, withName, withTick, ofWords, present}
+use Rattle.script.specs.Faults.{namedBy, needsId}
+use Rattle.script.specs.Lines.{withNumber, withFault, withTick, ofWords, present}
 use Rattle.script.specs.declared.fault.Fault.{Fault}
 use Rattle.script.specs.declared.fault.Named.the-variants.{Is, Unknown}
-use Rattle.script.specs.declared.line.Line.{Line}
 use Rattle.script.specs.declared.line.Line.the-variants.{Blank, Event, Faulty}
-use Rattle.script.specs.declared.line.Refusal.the-variants.{OneWord, BadTick, UnknownFault, MissingId, BadId}
+use Rattle.script.specs.declared.line.Refusal.the-variants.{OneWord, BadTick, UnknownFault, MissingId}
 use Rattle.words.proofs.Cutting.{led}
 
 -- ---- the id

@@ -1,9 +1,9 @@
 -- What a whole script says (RULES, "Fault scripts" and "Refusal numbers"), and the lent words after it was read.
 -- Over the whole text refusal 1 comes first, then 2; then the first faulty line answers. Assumes nothing.
-use mathlib.Core.Bool.{Bool, true, false, cond}
+use mathlib.Core.Bool.{cond}
 use mathlib.Core.List.{List, [], _∷_, _++_, map}
 use Prim.Native.Nat.{ℕ, suc, _+_, _*_, _/_}
-use lib.Dec.{leb, ltb, eqb}
+use lib.Dec.{ltb, eqb}
 use lib.ListN.{length, drop}
 use Rattle.order.specs.Order as order
 use Rattle.words.specs.Words.{linesOf}

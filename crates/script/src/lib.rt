@@ -9,7 +9,7 @@ ghost use mathlib.Core.Path.{_≡_};
 ghost use Prim.Native.Nat.{ℕ, _+_, _*_, _/_, _≤_};
 ghost use lib.Dec.{eqb};
 ghost use lib.ListN.{length};
-ghost use Rattle.numeral.specs.Writing.{laid};
+ghost use Rattle.basis.specs.Basis.{laid};
 ghost use Rattle.order.specs.Order.{wordsOf};
 ghost use Rattle.script.specs.Lines.{lineSays};
 ghost use Rattle.script.specs.Scripts.{refusalNumber, strayLine, judged, judgedLine, said, eventsIn, eventsOf, answerOf, wordsGiven, wordsAfter};

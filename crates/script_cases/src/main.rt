@@ -1,26 +1,12 @@
 // Replays the list of cases on standard input and prints how often each outcome was met.
 // The list is a sample of answers of the Rust's parse_script; compare/README.md says how it is made.
-fn print(key: &[u8], n: u64) {
-    io::write_all(libc::STDOUT_FILENO, key);
-    io::print_decimal(libc::STDOUT_FILENO, n);
-    io::write_all(libc::STDOUT_FILENO, b"\n");
-}
-
 fn main() {
     let mut list = [0u8; 65536];
+    let mut counts = [0u64; replay::COUNTS];
     let n = io::read_full(libc::STDIN_FILENO, &mut list);
-    let tally = replay::replay(&list[..n]);
-    print(b"cases=", tally.cases);
-    print(b"differing=", tally.differing);
-    print(b"no event=", tally.empty);
-    print(b"events=", tally.events);
-    print(b"refusal 1=", tally.refused[1]);
-    print(b"refusal 2=", tally.refused[2]);
-    print(b"refusal 3=", tally.refused[3]);
-    print(b"refusal 4=", tally.refused[4]);
-    print(b"refusal 5=", tally.refused[5]);
-    print(b"refusal 6=", tally.refused[6]);
-    print(b"refusal 7=", tally.refused[7]);
-    print(b"refusal 8=", tally.refused[8]);
-    print(b"other=", tally.refused[0]);
+    replay::replay(&list[..n], &mut counts);
+    tape::print_counts(
+        b"cases=differing=no event=events=refusal 1=refusal 2=refusal 3=refusal 4=refusal 5=refusal 6=refusal 7=refusal 8=other=",
+        &counts,
+    );
 }

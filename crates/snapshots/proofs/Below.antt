@@ -2,18 +2,14 @@
 use native.Mathlib.Omega.{arith}
 use native.Mathlib.Decide.{decLt}
 use native.Mathlib.Numerals.{add-one}
-use mathlib.Core.Bool.{Bool, true, false, _&&_, false≢true}
+use mathlib.Core.Bool.{Bool, true, false, _&&_}
 use mathlib.Core.List.{[], _∷_, _++_}
 use mathlib.Core.Path.{_≡_, refl, sym, ap, _∙_}
 use Prim.Native.Nat.{ℕ, zero, suc, _+_, _≤_, _<_, max}
 use lib.ListN.{length, getD, length-append, List·getD-append}
 use lib.Seq.{getD-at}
+use Rattle.basis.proofs.Laws.{both}
 use Rattle.snapshots.specs.Below.{numbered, allBelow, countBelow, maxBelow}
-
--- a conjunction's two sides
-pub both : (a b : Bool) → a && b ≡ true → (a ≡ true) × (b ≡ true)
-both true b e = (refl, e)
-both false b e = absurd (false≢true e)
 
 pub length-numbered : {A : Type 0} (n : ℕ) (f : ℕ → A) → length (numbered n f) ≡ n
 unfolding numbered

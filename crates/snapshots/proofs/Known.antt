@@ -3,22 +3,20 @@ use borrow.Author.Tests.{leb-true, eqb-true, le-leb, eq-eqb}
 use mathlib.Core.Bool.{Bool, true, _&&_}
 use mathlib.Core.List.{List}
 use mathlib.Core.Path.{_≡_}
-use Prim.Native.Nat.{ℕ, _*_, _≤_}
+use Prim.Native.Nat.{ℕ, _*_}
 use lib.Dec.{leb, eqb}
 use lib.ListN.{length, getD}
-use Rattle.snapshots.specs.Fits.{plantCount, plantsFit, snapshotFits, lastsFit, trackerFits}
+use Rattle.basis.specs.Basis.{plantCount}
+use Rattle.basis.proofs.Laws.{both, between}
+use Rattle.snapshots.specs.Fits.{plantsFit, snapshotFits, lastsFit, trackerFits}
 use Rattle.snapshots.specs.Layout.{logEntries, logWords, plantWords, recoveringAt, sizeAt, lastAt, trackerWords}
 use Rattle.snapshots.specs.Shape.{Snapshot, Tracked}
-use Rattle.snapshots.proofs.Below.{both, all-true, all-of}
-
-pub count-known : (n : ℕ) → plantCount n ≡ true → (3 ≤ n) × (n ≤ 15)
-unfolding plantCount
-count-known n e = let b = both (leb 3 n) (leb n 15) e in (leb-true 3 n (b .0), leb-true n 15 (b .1))
+use Rattle.snapshots.proofs.Below.{all-true, all-of}
 
 pub snapshot-known : (n : ℕ) (p l : List ℕ) → plantCount n ≡ true → snapshotFits n p l ≡ true → Snapshot n p l
 unfolding snapshotFits plantsFit
 snapshot-known n p l e f =
-    let c = count-known n e in
+    let c = between n e in
     let b = both (eqb (length p) (n * plantWords) && eqb (length l) (n * logWords)) (plantsFit n p) f in
     let d = both (eqb (length p) (n * plantWords)) (eqb (length l) (n * logWords)) (b .0) in
     let good : ℕ → Bool = λ r. leb (getD p (recoveringAt r) 0) 1 && leb (getD p (sizeAt r) 0) logEntries in

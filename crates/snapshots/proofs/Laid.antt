@@ -8,7 +8,7 @@ use Prim.Native.Nat.{ℕ, zero, suc, _+_, _-_, _≤_, _<_}
 use lib.ListN.{length, getD, set, take, drop, length-append, length-take, length-drop, take-append-drop, List·getD-append}
 use lib.Seq.{set-split, length-take-le, drop-drop, take-at, drop-append-add, getD-take, getD-drop, getD-append-add, set-getD}
 use Rattle.snapshots.specs.Below.{numbered}
-use Rattle.snapshots.specs.Layout.{laid}
+use Rattle.basis.specs.Basis.{laid}
 use Rattle.snapshots.proofs.Below.{length-numbered, numbered-more, numbered-none}
 
 -- nothing laid changes nothing

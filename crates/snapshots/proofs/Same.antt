@@ -9,7 +9,7 @@ use lib.Dec.{eqb, lit<}
 use lib.ListN.{getD}
 use Rattle.snapshots.specs.Cluster.{Entry, sameEntry, entryIn}
 use Rattle.snapshots.specs.Layout.{entryWords}
-use Rattle.snapshots.proofs.Below.{both}
+use Rattle.basis.proofs.Laws.{both}
 
 pub same-entries : (a b : Entry) → sameEntry a b ≡ true → a ≡ b
 unfolding sameEntry

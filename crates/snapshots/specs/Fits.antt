@@ -7,10 +7,6 @@ use lib.ListN.{length, getD}
 use Rattle.snapshots.specs.Below.{allBelow}
 use Rattle.snapshots.specs.Layout.{logEntries, logWords, plantWords, recoveringAt, sizeAt, lastAt, trackerWords}
 
--- 40: n is 3 to 15
-unfoldable pub plantCount : ℕ → Bool
-plantCount n = leb 3 n && leb n 15
-
 -- 60: 4n plant words, 512n log words, no recovering word over 1, no log over 128
 unfoldable pub plantsFit : ℕ → List ℕ → Bool
 plantsFit n p = allBelow n (λ r. leb (getD p (recoveringAt r) 0) 1 && leb (getD p (sizeAt r) 0) logEntries)

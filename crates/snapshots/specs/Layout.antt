@@ -1,8 +1,6 @@
 -- Where the lent words of a snapshot and of the tracker stand (RULES, "Properties"): the widths and the offsets, each said once. Entries of
 -- another width change `entryWords` and nothing else here. Assumes nothing.
-use mathlib.Core.List.{List, _++_}
 use Prim.Native.Nat.{ℕ, _+_, _*_}
-use lib.ListN.{length, take, drop}
 
 -- an entry is client, request, op id and op body; a log and the canonical part have room for 128 of them
 abbrev pub entryWords : ℕ
@@ -46,7 +44,3 @@ seenAt n r i = 2 + n + logWords + r * logEntries + i
 
 abbrev pub trackerWords : ℕ → ℕ
 trackerWords n = 2 + n + logWords + n * logEntries
-
--- words laid over a list from a place on: what stands before them and after them stays
-abbrev pub laid : List ℕ → ℕ → List ℕ → List ℕ
-laid w place words = take place w ++ (words ++ drop (place + length words) w)

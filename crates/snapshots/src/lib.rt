@@ -4,7 +4,7 @@ ghost use mathlib.Core.Path.{_≡_};
 ghost use Prim.Native.Nat.{_+_, _*_, _≤_, _<_};
 ghost use lib.ListN.{length, getD};
 ghost use Rattle.snapshots.specs.Cluster.{sameEntry, entryIn};
-ghost use Rattle.snapshots.specs.Fits.{plantCount, plantsFit, snapshotFits, lastsFit, trackerFits};
+ghost use Rattle.snapshots.specs.Fits.{plantsFit, snapshotFits, lastsFit, trackerFits};
 ghost use Rattle.snapshots.specs.Layout.{plantWords, trackerWords, entryWords};
 
 // An entry is client, request, op id and op body. A log, and the tracker's canonical part, have room for 128.
@@ -36,19 +36,6 @@ pub fn number(words: &[u64], at: usize) -> usize
     ensures { λ r. ⌜ r ≡ getD (now (words .entry)) at 0 ⌝ }
 {
     words[at] as usize
-}
-
-// 40: n is 3 to 15.
-pub fn plant_count(n: usize) -> bool
-    ensures { λ b. ⌜ b ≡ plantCount n ⌝ }
-{
-    if n < 3 {
-        return false;
-    }
-    if 15 < n {
-        return false;
-    }
-    true
 }
 
 // How many words a tracker has.

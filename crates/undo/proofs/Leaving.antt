@@ -14,8 +14,7 @@ use Rattle.nights.specs.Net.{capacity, Network as Plain, keep, insertAll, wellF
 use Rattle.nights.specs.Journal.{undone, unsend, untake, checked}
 use Rattle.nights.proofs.Order.{length-split, length-insertAll}
 use Rattle.nights.proofs.Undo.{length-wordsOf}
-use Rattle.nights.proofs.Kept.{both}
-use Rattle.queue.specs.Form.{zeros}
+use Rattle.basis.proofs.Laws.{both}
 use Rattle.queue.specs.Packed.{packed}
 use Rattle.queue.specs.Places.{insertedAll}
 use Rattle.queue.proofs.Inserting.{length-recs}

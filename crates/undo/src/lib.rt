@@ -2,6 +2,13 @@
 // before its call. The words of a journal may be forged: a record that does not fit, or that would leave an ill-formed network, is
 // told as such, and no sum of the walk wraps.
 use fates::NetworkOptions;
+use ledger::HEADER;
+use ledger::OPTIONS;
+use ledger::OPTIONS_WORDS;
+use ledger::SEND;
+use ledger::SEND_WORDS;
+use ledger::TAKE;
+use ledger::TAKE_WORDS;
 use network::Counted;
 use network::Network;
 ghost use mathlib.Core.Path.{_≡_};
@@ -16,23 +23,6 @@ ghost use Rattle.queue.specs.Plain.{plainRecord};
 ghost use Rattle.queue.specs.Places.{insertedAll};
 ghost use Rattle.network.specs.Forms.{plainOf, isFormed};
 ghost use Rattle.undo.specs.Undone.{undoneOf, sealedOf, upTo};
-
-// The sorts of a record, which stand before its length at its end.
-pub const SEND: u64 = 1;
-
-pub const TAKE: u64 = 2;
-
-pub const OPTIONS: u64 = 3;
-
-// The words of a send's record, of an options record, and of a take's record beside the records taken.
-pub const SEND_WORDS: usize = 6;
-
-pub const OPTIONS_WORDS: usize = 7;
-
-pub const TAKE_WORDS: usize = 2;
-
-// The words before the first record: the calls held, and the words used.
-pub const HEADER: usize = 2;
 
 // What undoing gives: the network from before, and where in the journal the undone records start. Where one does not fit, neither
 // says anything.

@@ -1,6 +1,6 @@
 -- A text cut into lines, a line cut at its comment, stripped, and cut into words (RULES, "Fault scripts"). Bytes are numbers.
 -- Assumes nothing.
-use mathlib.Core.Bool.{Bool, true, false, cond, not, _&&_, _||_}
+use mathlib.Core.Bool.{Bool, false, cond, not, _&&_, _||_}
 use mathlib.Core.List.{List, [], _∷_}
 use Prim.Native.Nat.{ℕ, suc, _+_}
 use lib.Dec.{leb, eqb}

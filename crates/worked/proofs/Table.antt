@@ -5,7 +5,8 @@ use Rattle.numeral.specs.Digits.{isDigit, allDigits, valueOf}
 use Rattle.numeral.specs.Reading.{numberOf, unsigned, isNumber, inDigits}
 use Rattle.chance.specs.Probability.{goodWord, isOne, isZero, thresholdOf}
 use Rattle.chance.specs.Draw.{byWord, genBool, genBoolInSend}
-use Rattle.plants.specs.State.{tested, plantCount, noneSet, countsFit}
+use Rattle.basis.specs.Basis.{plantCount}
+use Rattle.plants.specs.State.{tested, noneSet, countsFit}
 use Rattle.plants.specs.State as State
 use Rattle.lineup.specs.Shuffle.{shuffledFrom, picksWithin}
 use Rattle.lineup.specs.Core.{picksInRange, idsFrom, those, lineUp, inserted, sorted, coreOf, flagsFit, healthyCount}

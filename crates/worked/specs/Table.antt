@@ -2,11 +2,11 @@
 -- code cite. Assumes nothing.
 use Prim.Native.Nat.{ℕ, _-_, _^_}
 use mathlib.Core.Path.{_≡_}
-use mathlib.Core.Bool.{true, false}
-use mathlib.Core.List.{List, [], _∷_, _++_, map}
+use mathlib.Core.Bool.{false}
+use mathlib.Core.List.{List, [], _∷_, map}
 use lib.IntN.{negsuc}
 use lib.Ieee.{Float, fin, binary64, toBits}
-use lib.ListN.{length, take, replicate}
+use lib.ListN.{take, replicate}
 use Rattle.numeral.specs.Reading.{numberOf}
 use Rattle.numeral.specs.declared.Number.the-variants.{Value, Bad}
 use Rattle.chance.specs.Probability.{thresholdOf}
@@ -16,7 +16,7 @@ use Rattle.plants.specs.State.{fresh}
 use Rattle.liveness.specs.Choice.{chosen}
 use Rattle.durability.specs.Durability.{neededCopies}
 use Rattle.nights.specs.Record.{Record}
-use Rattle.nights.specs.Net.{Options, Network, Letter, keep, isDue}
+use Rattle.nights.specs.Net.{Options, Letter, keep, isDue}
 use Rattle.nights.specs.Net
 use Rattle.nights.specs.Draws.{fateOf, decided}
 use Rattle.nights.specs.Journal.{Call, plain, rewind, State, held, used}

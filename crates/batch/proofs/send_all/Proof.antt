@@ -1,9 +1,7 @@
 -- `batch::send_all` meets its contract: what is left to send, from what has been sent, leaves what the whole leaves. Assumes nothing.
-use Prim.Native.Nat.{ℕ, suc, _+_, _-_, _*_, _≤_}
-use mathlib.Core.Path.{_≡_, refl, sym, ap, _∙_}
-use mathlib.Core.Bool.{true}
+use Prim.Native.Nat.{ℕ, _+_, _-_, _≤_}
+use mathlib.Core.Path.{_≡_, sym, ap, _∙_}
 use native.Mathlib.Omega.{arith}
-use native.Mathlib.Numerals.{add-one}
 use borrow.Author.Needs.{needs}
 use mathlib.Core.List.{List}
 use lib.ListN.{length, take, drop, getD}
@@ -11,7 +9,6 @@ use Rattle.nights.specs.Net.{Plain as Call}
 use Rattle.network.specs.declared.Network.{Network}
 use Rattle.network.specs.Forms.{joined}
 use Rattle.network.specs.Calls.{callAnswer, callNetwork}
-use Rattle.fates.specs.Answers.{number}
 use Rattle.network.specs.Answers.{sentOf, sending}
 use Rattle.nights.specs.Draws.{Decided}
 use Rattle.nights.specs.Journal.{done}

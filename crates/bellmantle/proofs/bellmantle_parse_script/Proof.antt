@@ -1,7 +1,7 @@
 -- `bellmantle::bellmantle_parse_script` meets its contract: a refusal's number is at most 8 and its line at most the text's last, so that the
 -- answer fits a word. Assumes nothing.
 use native.Mathlib.Omega.{arith}
-use mathlib.Core.Path.{_≡_, sym, ap, _∙_}
+use mathlib.Core.Path.{sym, ap, _∙_}
 use Prim.Native.Nat.{ℕ, _+_, _*_, _≤_}
 use lib.ListN.{length}
 use Rattle.script.specs.Scripts.{refusalNumber}

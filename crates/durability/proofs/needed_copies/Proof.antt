@@ -7,14 +7,14 @@ use Rattle.durability.proofs.needed_copies.Tie as tie
 participants-requires : tie.Need-participants-requires
 participants-requires c κs = search needs
 
-add-quorum : tie.Need-add-quorum
-add-quorum c = search needs
+quorum-requires : tie.Need-quorum-requires
+quorum-requires c κs = search needs
 
 add-if1 : tie.Need-add-if1
 add-if1 c = search needs
 
 returns : tie.Need-returns
-returns c = λ l t. omega (arith, c .before .participants .ensures .1 l t)
+returns c = λ l t. omega (arith, c .before .before .participants .ensures .1 l t, c .before .quorum .ensures)
 
 add-result : tie.Need-add-result
 add-result c = search needs
@@ -23,9 +23,9 @@ sub-result : tie.Need-sub-result
 sub-result c = search needs
 
 returns-2 : tie.Need-returns-2
-returns-2 c = λ l t. omega (arith, c .before .participants .ensures .1 l t)
+returns-2 c = λ l t. omega (arith, c .before .before .participants .ensures .1 l t, c .before .quorum .ensures)
 
 pub needed-copies-spec : {M : Type 1} → statement M
 needed-copies-spec =
     tie.close
-    (tie.spec participants-requires add-quorum add-if1 returns add-result sub-result returns-2)
+    (tie.spec participants-requires quorum-requires add-if1 returns add-result sub-result returns-2)

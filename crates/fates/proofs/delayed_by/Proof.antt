@@ -17,20 +17,20 @@ enum-told-2 c = search needs
 enum-known-decision : tie.Need-enum-known-decision
 enum-known-decision c = search needs
 
-one-if-requires : tie.Need-one-if-requires
-one-if-requires c κs = search needs
+flag-word-requires : tie.Need-flag-word-requires
+flag-word-requires c κs = search needs
 
 enum-known-decision-2 : tie.Need-enum-known-decision-2
 enum-known-decision-2 c = search needs
 
-one-if-requires-2 : tie.Need-one-if-requires-2
-one-if-requires-2 c κs = search needs
+flag-word-requires-2 : tie.Need-flag-word-requires-2
+flag-word-requires-2 c κs = search needs
 
-one-if-requires-3 : tie.Need-one-if-requires-3
-one-if-requires-3 c κs = search needs
+flag-word-requires-3 : tie.Need-flag-word-requires-3
+flag-word-requires-3 c κs = search needs
 
 add-result : tie.Need-add-result
-add-result c = omega (arith, c .one-if3 .ensures .1, c .before .one-if2 .ensures .1)
+add-result c = omega (arith, c .flag-word3 .ensures .1, c .before .flag-word2 .ensures .1)
 
 returns : tie.Need-returns
 unfolding delayedBy
@@ -42,11 +42,11 @@ returns-2 c = sym (ap (λ (d : Decision). delayedBy (decisionOf d .fate)) (c .en
 
 returns-3 : tie.Need-returns-3
 unfolding delayedBy
-returns-3 c = c .one-if .ensures .0 ∙ sym (ap (λ (d : Decision). delayedBy (decisionOf d .fate)) (c .before .before .decision .given .1))
+returns-3 c = c .flag-word .ensures .0 ∙ sym (ap (λ (d : Decision). delayedBy (decisionOf d .fate)) (c .before .before .decision .given .1))
 
 returns-4 : tie.Need-returns-4
 unfolding delayedBy
-returns-4 c = rw (c .one-if3 .ensures .0, c .before .one-if2 .ensures .0) (sym (ap (λ (d : Decision). delayedBy (decisionOf d .fate)) (c .before .before .before .decision2 .given .1)))
+returns-4 c = rw (c .flag-word3 .ensures .0, c .before .flag-word2 .ensures .0) (sym (ap (λ (d : Decision). delayedBy (decisionOf d .fate)) (c .before .before .before .decision2 .given .1)))
 
 pub delayed-by-spec : {M : Type 1} → statement M
 delayed-by-spec =
@@ -55,10 +55,10 @@ delayed-by-spec =
     enum-told
     enum-told-2
     enum-known-decision
-    one-if-requires
+    flag-word-requires
     enum-known-decision-2
-    one-if-requires-2
-    one-if-requires-3
+    flag-word-requires-2
+    flag-word-requires-3
     add-result
     returns
     returns-2

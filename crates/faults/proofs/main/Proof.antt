@@ -1,6 +1,6 @@
 -- `faults::main` is safe and ends: what is lent to each call lies within what the call before it filled. Assumes nothing.
-use mathlib.Core.Path.{_≡_, sym, subst, _∙_}
-use Prim.Native.Nat.{ℕ, _≤_}
+use mathlib.Core.Path.{sym, subst}
+use Prim.Native.Nat.{_≤_}
 use lib.ListN.{length}
 use lib.Seq.{length-take-le}
 use Rattle.report.proofs.Within.{handed}
@@ -21,6 +21,9 @@ written : (c : tie.After-known-told2) → c .before .written .given .0 .0 ≤ le
 written c =
     let r = c .before .before .before .before .report in
     handed _ _ (r .last .1 .0) (c .before .written .given .0 .0) (r .result) (r .ensures .0) (r .ensures .1) (c .before .written .given .1)
+
+room-requires : tie.Need-room-requires
+room-requires c κs = search needs
 
 slice-aggregate-read-all : tie.Need-slice-aggregate-read-all
 slice-aggregate-read-all c = search needs
@@ -43,11 +46,14 @@ fail-requires c κs = search needs
 returns : tie.Need-returns
 returns c = search needs
 
+room-requires-2 : tie.Need-room-requires-2
+room-requires-2 c κs = search needs
+
 array-share-prefix-text : tie.Need-array-share-prefix-text
-array-share-prefix-text c = within c
+array-share-prefix-text c = within (c .before)
 
 slice-aggregate-report : tie.Need-slice-aggregate-report
-slice-aggregate-report c = sym (length-take-le (c .before .before .length .given .0 .0) (c .before .before .before .before .before .read-all .last .1 .0) (within (c .before)))
+slice-aggregate-report c = sym (length-take-le (c .before .before .before .length .given .0 .0) (c .before .before .before .before .before .before .read-all .last .1 .0) (within (c .before .before)))
 
 slice-aggregate-report-2 : tie.Need-slice-aggregate-report-2
 slice-aggregate-report-2 c = search needs
@@ -89,6 +95,7 @@ pub main-spec : {M : Type 1} → statement M
 main-spec =
     tie.close
     (tie.spec
+    room-requires
     slice-aggregate-read-all
     read-all-requires
     enum-known-length
@@ -96,6 +103,7 @@ main-spec =
     slice-aggregate-fail
     fail-requires
     returns
+    room-requires-2
     array-share-prefix-text
     slice-aggregate-report
     slice-aggregate-report-2

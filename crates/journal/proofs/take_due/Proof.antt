@@ -8,7 +8,8 @@ use lib.ListN.{length, take, set, length-append, length-take, length-set}
 use lib.Seq.{length-take-le}
 use Rattle.nights.specs.Record.{Record, wordsOf}
 use Rattle.nights.specs.Net.{Plain as Call, take as takes, keep, isDue}
-use Rattle.nights.specs.Journal.{Answer, done, overwrite, logged, undoWords, verdict, journalTests}
+use Rattle.basis.specs.Basis.{laid}
+use Rattle.nights.specs.Journal.{Answer, done, logged, undoWords, verdict, journalTests}
 use Rattle.network.specs.declared.Network.{Network}
 use Rattle.fates.specs.Answers.{settledOf}
 use Rattle.network.specs.Answers.{countedOf, counting}
@@ -214,7 +215,7 @@ returns-3 c =
         n .1 .0 ∙ ap (λ (a : Answer). counting a (length (due p))) (told k .0 ∙ d),
         (
           c .before .before .before .before .before .before .before .write-at .ensures
-              ∙ (ap (λ (x : List ℕ). overwrite (output p) 0 x) (taken k)
+              ∙ (ap (λ (x : List ℕ). laid (output p) 0 x) (taken k)
               ∙ (over-front (output p) (wordsOf (due p)) ∙ ap (λ (a : Answer). written a (wordsOf (due p)) (output p)) d)),
           c .before .before .append .ensures ∙ (ap (λ (x : List ℕ). logged (words p) x) (wrote k) ∙ m .words),
         ),

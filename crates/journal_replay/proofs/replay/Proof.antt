@@ -9,32 +9,32 @@ use Rattle.journal_replay.proofs.replay.Statement.{statement}
 use Rattle.journal_replay.proofs.replay.Tie as tie
 
 abbrev Inv-loop : tie.InvT-loop
-Inv-loop list words₀ tally₀ network₀ room₀ forged₀ at₀ words tally network room forged at =
-    (at ≤ length list) × (room ≤ length words₀) × (length words ≡ length words₀)
+Inv-loop list words₀ counts₀ network₀ room₀ forged₀ at₀ words counts network room forged at =
+    (at ≤ length list) × (room ≤ length words₀) × (length words ≡ length words₀) × (length counts ≡ length counts₀)
 
 abbrev μ-loop : tie.MeasureT-loop
-μ-loop list words₀ tally₀ network₀ room₀ forged₀ at₀ words tally network room forged at = length list - at
-
-new-requires : tie.Need-new-requires Inv-loop μ-loop
-new-requires c κs = tt
+μ-loop list words₀ counts₀ network₀ room₀ forged₀ at₀ words counts network room forged at = length list - at
 
 perfect-requires : tie.Need-perfect-requires Inv-loop μ-loop
 perfect-requires c κs = tt
 
-new-requires-2 : tie.Need-new-requires-2 Inv-loop μ-loop
-new-requires-2 c κs = tt
+new-requires : tie.Need-new-requires Inv-loop μ-loop
+new-requires c κs = tt
 
 loop-holds : tie.Need-loop-holds Inv-loop μ-loop
-loop-holds c = (omega arith, omega arith, refl)
+loop-holds c = (omega arith, omega arith, refl, refl)
 
 sub-if1 : tie.Need-sub-if1 Inv-loop μ-loop
 sub-if1 c = omega arith
 
-differs-requires : tie.Need-differs-requires Inv-loop μ-loop
-differs-requires c κs = tt
+count-requires : tie.Need-count-requires Inv-loop μ-loop
+count-requires c κs = tt
 
 same-length : tie.Need-same-length Inv-loop μ-loop
 same-length c = search needs
+
+same-length-2 : tie.Need-same-length-2 Inv-loop μ-loop
+same-length-2 c = search needs
 
 returns : tie.Need-returns Inv-loop μ-loop
 returns c = tt
@@ -43,13 +43,16 @@ replay-call-requires : tie.Need-replay-call-requires Inv-loop μ-loop
 replay-call-requires c κs = (omega arith, omega arith)
 
 loop-less : tie.Need-loop-less Inv-loop μ-loop
-loop-less c = omega (arith, c .before .before .before .before .replay-call .ensures)
+loop-less c = omega (arith, c .before .before .before .before .before .replay-call .ensures)
 
 loop-again : tie.Need-loop-again Inv-loop μ-loop
-loop-again c = let e = c .before .before .before .before .replay-call .ensures in (e .1, omega (arith, e .2), search needs)
+loop-again c = let e = c .before .before .before .before .before .replay-call .ensures in (e .1, omega (arith, e .2), search needs, search needs)
 
-same-length-2 : tie.Need-same-length-2 Inv-loop μ-loop
-same-length-2 c = search needs
+same-length-3 : tie.Need-same-length-3 Inv-loop μ-loop
+same-length-3 c = search needs
+
+same-length-4 : tie.Need-same-length-4 Inv-loop μ-loop
+same-length-4 c = search needs
 
 returns-2 : tie.Need-returns-2 Inv-loop μ-loop
 returns-2 c = tt
@@ -60,16 +63,17 @@ replay-spec =
     (tie.spec
     Inv-loop
     μ-loop
-    new-requires
     perfect-requires
-    new-requires-2
+    new-requires
     loop-holds
     sub-if1
-    differs-requires
+    count-requires
     same-length
+    same-length-2
     returns
     replay-call-requires
     loop-less
     loop-again
-    same-length-2
+    same-length-3
+    same-length-4
     returns-2)

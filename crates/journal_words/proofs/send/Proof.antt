@@ -114,7 +114,7 @@ returns-3 c =
           e .1 ∙ w .records,
           (
             w .journal,
-            rw (c .before .before .flag-word .ensures, c .before .flag-word2 .ensures) (sent-told _ _ _ (called (y .before .before .before .before) .tells) _ _ _ _ (y .answer2 .given .1) ∙ w .finished .words _ _),
+            rw (c .before .before .flag-word .ensures .0, c .before .flag-word2 .ensures .0) (sent-told _ _ _ (called (y .before .before .before .before) .tells) _ _ _ _ (y .answer2 .given .1) ∙ w .finished .words _ _),
           ),
         ),
       ),

@@ -8,7 +8,7 @@ use denote.Floats.{passes}
 use Rattle.chance.specs.Probability.{goodWord}
 use Rattle.nights.specs.Net.{Options, choose, goodOptions}
 use Rattle.nights.specs.Journal.{Answer, refused, verdict, optionTests}
-use Rattle.nights.proofs.Kept.{both}
+use Rattle.basis.proofs.Laws.{both}
 use Rattle.network.specs.declared.Head.{Head}
 use Rattle.network.specs.declared.Network.{Network}
 use Rattle.fates.specs.Answers.{settledOf}

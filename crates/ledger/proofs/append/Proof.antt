@@ -4,7 +4,8 @@ use mathlib.Core.Path.{_≡_, ap, _∙_}
 use mathlib.Core.List.{List}
 use native.Mathlib.Omega.{arith}
 use lib.ListN.{length, getD, length-set}
-use Rattle.nights.specs.Journal.{held, used, overwrite}
+use Rattle.basis.specs.Basis.{laid}
+use Rattle.nights.specs.Journal.{held, used}
 use Rattle.ledger.proofs.Words.{Header, good-header, held-stays, length-over, logged-by}
 use borrow.Author.Needs.{needs}
 use Rattle.ledger.proofs.append.Statement.{statement}
@@ -18,7 +19,7 @@ module _ (c : tie.After-write-at) where
   abbrev start : tie.Start
   start = c .before .before .before .before .before
 
-  over : c .write-at .last .0 ≡ overwrite (start .args .journal .now) (used (start .args .journal .now)) (start .args .what .now)
+  over : c .write-at .last .0 ≡ laid (start .args .journal .now) (used (start .args .journal .now)) (start .args .what .now)
   over = c .write-at .ensures
 
   long : 2 ≤ length (c .write-at .last .0)

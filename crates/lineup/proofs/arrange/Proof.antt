@@ -3,7 +3,7 @@ use Prim.Native.Nat.{_-_}
 use mathlib.Core.Path.{_≡_, _∙_}
 use native.Mathlib.Omega.{arith}
 use lib.ListN.{length, take, drop}
-use Rattle.lineup.specs.Core.{quorum}
+use Rattle.basis.specs.Basis.{quorum}
 use Rattle.lineup.proofs.Lining.{part-length, arranged}
 use borrow.Author.Needs.{needs}
 use Rattle.lineup.proofs.arrange.Statement.{statement}

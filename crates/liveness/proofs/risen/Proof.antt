@@ -6,7 +6,7 @@ use mathlib.Core.Bool.{not, _&&_, false}
 use borrow.Author.Needs.{needs}
 use lib.ListN.{drop, getD}
 use Rattle.liveness.specs.Choice.{risen}
-use Rattle.lineup.proofs.Tallies.{at-most-one}
+use Rattle.basis.proofs.Laws.{bit-le}
 use Rattle.liveness.proofs.RisenFlags.{risen-next, risen-end}
 use Rattle.liveness.proofs.risen.Statement.{statement}
 use Rattle.liveness.proofs.risen.Tie as tie
@@ -33,7 +33,7 @@ add-count : tie.Need-add-count Inv-loop μ-loop
 add-count c =
     let l = c .before .before .before .before in
     let a = l .before .args in
-    omega (arith, c .rises .ensures, at-most-one (not (getD (a .before .now) (l .loop .i) false) && getD (a .after .now) (l .loop .i) false))
+    omega (arith, c .rises .ensures, bit-le (not (getD (a .before .now) (l .loop .i) false) && getD (a .after .now) (l .loop .i) false))
 
 add-i : tie.Need-add-i Inv-loop μ-loop
 add-i c = omega arith
@@ -48,7 +48,7 @@ loop-again c =
     omega (
       arith,
       c .rises .ensures,
-      at-most-one (not (getD (a .before .now) (l .loop .i) false) && getD (a .after .now) (l .loop .i) false),
+      bit-le (not (getD (a .before .now) (l .loop .i) false) && getD (a .after .now) (l .loop .i) false),
       risen-next (a .before .now) (a .after .now) (l .loop .i) (omega arith) (omega arith),
     )
 

@@ -8,7 +8,8 @@ use lib.ListN.{length}
 use Rattle.plants.specs.State.{tested}
 use Rattle.plants.specs.declared.refusal.Test.the-variants.{Passed}
 use Rattle.plants.proofs.Testing.{bounds}
-use Rattle.lineup.specs.Core.{quorum, flagsFit, healthyCount}
+use Rattle.basis.specs.Basis.{quorum}
+use Rattle.lineup.specs.Core.{flagsFit, healthyCount}
 use Rattle.liveness.proofs.Lending.{bad-state, other-length, flag-over, too-few-healthy, too-few-picks, by-range}
 use borrow.Author.Needs.{needs}
 use Rattle.liveness.proofs.test_lent.Statement.{statement}

@@ -1,5 +1,5 @@
 -- `network::options_in` meets its contract. Assumes nothing.
-use mathlib.Core.Path.{_≡_, sym, ap, _∙_}
+use mathlib.Core.Path.{sym, ap, _∙_}
 use borrow.Author.Tests.{not-true, not-false}
 use denote.Floats.{passes}
 use Rattle.nights.specs.Net.{Plain as Call, choose, effect}

@@ -33,7 +33,7 @@ returns-2 c =
     let o = c .before .before .before .before .before in
     let b = o .before in
     let d : Done (verdict (optionTests (asked b) [])) = finished _ (number-done (asked b) (sym (o .options-number .ensures (b .args .flag)) ∙ c .before .before .before .before .if1 .left)) in
-    (d .number, (rw (c .before .before .before .flag-word .ensures) (d .words _ _), c .clear .ensures ∙ d .words _ _))
+    (d .number, (rw (c .before .before .before .flag-word .ensures .0) (d .words _ _), c .clear .ensures ∙ d .words _ _))
 
 pub new-spec : {M : Type 1} → statement M
 new-spec =

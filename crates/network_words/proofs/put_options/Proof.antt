@@ -30,7 +30,7 @@ element-write-head-5 c = search needs
 returns : tie.Need-returns
 returns c =
     let a = c .before .before .before .before .args in
-    rw (c .flag-word .ensures)
+    rw (c .flag-word .ensures .0)
     (sets-eq (a .loss ∷ a .replay ∷ a .min ∷ a .mean ∷ _ ∷ []) (a .head .now) 0 (omega (arith, c .before .before .as-row-arg2 .given .0)))
 
 pub put-options-spec : {M : Type 1} → statement M

@@ -115,7 +115,7 @@ returns-3 c =
         s .store .ensures ∙ (ap (λ (n : Network). headWords (headOf n)) (inside x) ∙ d .words _ _),
         (
           ap (λ (n : Network). n .words) (inside x) ∙ d .words _ _,
-          rw (c .before .before .flag-word .ensures, c .before .flag-word2 .ensures) (sent-told _ _ _ (tells x) _ _ _ _ (y .answer2 .given .1) ∙ d .words _ _),
+          rw (c .before .before .flag-word .ensures .0, c .before .flag-word2 .ensures .0) (sent-told _ _ _ (tells x) _ _ _ _ (y .answer2 .given .1) ∙ d .words _ _),
         ),
       ),
     )

@@ -15,7 +15,7 @@ flag-word-requires : tie.Need-flag-word-requires
 flag-word-requires c κs = search needs
 
 returns : tie.Need-returns
-returns c = rw (c .before .before .before .word-of .ensures .0, c .before .before .word-of2 .ensures .0, c .before .flag-word .ensures)
+returns c = rw (c .before .before .before .word-of .ensures .0, c .before .before .word-of2 .ensures .0, c .before .flag-word .ensures .0)
 
 pub store-spec : {M : Type 1} → statement M
 store-spec = tie.close (tie.spec word-of-requires word-of-requires-2 flag-word-requires returns)

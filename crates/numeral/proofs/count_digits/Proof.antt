@@ -1,8 +1,8 @@
 -- `numeral::count_digits` meets its contract. The loop's invariant: the digits counted and those of what is left are all of n's, and what is
 -- left has few enough that the count ends at 20. Assumes nothing.
 use native.Mathlib.Omega.{arith}
-use mathlib.Core.Path.{_≡_, refl, sym, ap, _∙_}
-use Prim.Native.Nat.{ℕ, suc, _+_, _-_, _^_, _≤_, _<_}
+use mathlib.Core.Path.{_≡_}
+use Prim.Native.Nat.{suc, _+_, _-_, _^_, _≤_, _<_}
 use Rattle.numeral.specs.Writing.{digitCount}
 use Rattle.numeral.proofs.Decimal.{More, count-more, count-last}
 use Rattle.numeral.proofs.count_digits.Statement.{statement}

@@ -1,8 +1,8 @@
 -- `numeral::put_digits` meets its contract. The loop's invariant: the digits after place i stand already, and what is left of n are those
 -- before it. Assumes nothing.
 use native.Mathlib.Omega.{arith}
-use mathlib.Core.Path.{_≡_, refl, sym, ap, _∙_}
-use Prim.Native.Nat.{ℕ, suc, _+_, _-_, _*_, _/_, _%_, _^_, _≤_, _<_}
+use mathlib.Core.Path.{_≡_, ap, _∙_}
+use Prim.Native.Nat.{ℕ, suc, _+_, _-_, _/_, _%_, _^_, _≤_}
 use lib.ListN.{length, set}
 use Rattle.numeral.proofs.Decimal.{shown, shown-none, shown-more, length-shown, divided, length-lastDigits}
 use Rattle.numeral.proofs.put_digits.Statement.{statement}

@@ -2,13 +2,11 @@
 use borrow.Author.Needs.{needs}
 use borrow.Author.Tests.{lt-leb, le-leb, lt-ltb, le-ltb}
 use native.Mathlib.Omega.{arith}
-use mathlib.Core.Bool.{Bool, true, false, cond, _&&_}
-use mathlib.Core.Path.{_≡_, refl}
+use mathlib.Core.Bool.{true, false}
+use mathlib.Core.Path.{_≡_}
 use Prim.Native.Nat.{ℕ, _+_, _-_, _*_, _^_, _≤_, _<_}
-use lib.Dec.{leb}
 use Rattle.numeral.specs.Digits.{isDigit}
 use Rattle.numeral.specs.Reading.{withDigit}
-use Rattle.numeral.specs.declared.Number.{Number}
 use Rattle.numeral.specs.declared.Number.the-variants.{Value, Bad}
 use Rattle.numeral.proofs.with_digit.Statement.{statement}
 use Rattle.numeral.proofs.with_digit.Tie as tie

@@ -2,11 +2,12 @@
 use borrow.Author.Tests.{le-leb, lt-leb}
 use native.Mathlib.Omega.{arith}
 use mathlib.Core.List.{List, _++_}
-use mathlib.Core.Path.{_≡_, refl, sym, ap, _∙_}
+use mathlib.Core.Path.{_≡_, sym, ap, _∙_}
 use Prim.Native.Nat.{ℕ, _+_, _≤_, _<_}
 use lib.ListN.{length, take, drop}
 use Rattle.numeral.specs.Digits.{lastDigits}
-use Rattle.numeral.specs.Writing.{digitCount, decimal, laid, writtenOf, outOf}
+use Rattle.basis.specs.Basis.{laid}
+use Rattle.numeral.specs.Writing.{digitCount, decimal, writtenOf, outOf}
 use Rattle.numeral.specs.declared.Written.the-variants.{Upto, NoRoom}
 use Rattle.numeral.proofs.Decimal.{length-lastDigits}
 use borrow.Author.Needs.{needs}

@@ -1,10 +1,10 @@
 -- `plant_words::choose_core` meets its contract: each way out in turn. Assumes nothing.
 use mathlib.Core.Path.{_≡_, sym, ap, _∙_}
-use mathlib.Core.Bool.{Bool, not}
+use mathlib.Core.Bool.{not}
 use lib.Dec.{eqb}
 use Rattle.plants.specs.declared.Plants.{Plants}
 use Rattle.liveness.specs.Choice.{chosen}
-use Rattle.plant_words.specs.Layout.{plantsIn, shaped}
+use Rattle.plant_words.specs.Layout.{shaped}
 use Rattle.plant_words.specs.Calls.{chosenOf}
 use Rattle.plant_words.proofs.Answering.{core-misshapen, core-refused, core-made}
 use borrow.Author.Needs.{needs}

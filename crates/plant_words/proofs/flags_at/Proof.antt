@@ -1,10 +1,10 @@
 -- `plant_words::flags_at` meets its contract: the flags read so far stand in front. Assumes nothing.
-use Prim.Native.Nat.{_+_, _-_, _≤_}
-use mathlib.Core.Path.{_≡_, refl, sym, ap, _∙_}
+use Prim.Native.Nat.{_-_, _≤_}
+use mathlib.Core.Path.{_≡_, refl, _∙_}
 use native.Mathlib.Omega.{arith}
 use mathlib.Core.Bool.{Bool, false}
 use mathlib.Core.List.{List}
-use lib.ListN.{length, take, drop, replicate, length-replicate}
+use lib.ListN.{length, take, drop, replicate}
 use lib.Seq.{paste, paste-zero}
 use Rattle.plant_words.specs.Layout.{flagsIn}
 use Rattle.plant_words.proofs.Writing.{one-more, all-over}

@@ -1,10 +1,4 @@
 -- `plant_words::load` meets its contract, field by field. Assumes nothing.
-use mathlib.Core.Path.{_≡_, ap, _∙_}
-use Prim.Native.Nat.{ℕ}
-use mathlib.Core.Bool.{Bool}
-use mathlib.Core.List.{List}
-use lib.ListN.{getD}
-use Rattle.plants.specs.declared.Plants.{Plants}
 use borrow.Author.Needs.{needs}
 use Rattle.plant_words.proofs.load.Statement.{statement}
 use Rattle.plant_words.proofs.load.Tie as tie

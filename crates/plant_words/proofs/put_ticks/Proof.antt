@@ -1,8 +1,7 @@
 -- `plant_words::put_ticks` meets its contract: the ticks written so far stand from their place on. Assumes nothing.
-use Prim.Native.Nat.{_+_, _-_, _≤_}
-use mathlib.Core.Path.{_≡_, refl, sym, ap, _∙_}
+use Prim.Native.Nat.{_-_, _≤_}
+use mathlib.Core.Path.{_≡_, refl, _∙_}
 use native.Mathlib.Omega.{arith}
-use lib.ListN.{length}
 use lib.Seq.{paste, paste-zero}
 use Rattle.plant_words.proofs.Writing.{one-more, all-written}
 use Rattle.plant_words.proofs.put_ticks.Statement.{statement}

@@ -1,6 +1,4 @@
 -- `plant_words::put_word` meets its contract. Assumes nothing.
-use mathlib.Core.Path.{_≡_}
-use lib.ListN.{length}
 use native.Mathlib.Omega.{arith}
 use Rattle.plant_words.proofs.Writing.{only-word}
 use borrow.Author.Needs.{needs}

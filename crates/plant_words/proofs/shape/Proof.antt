@@ -1,5 +1,5 @@
 -- `plant_words::shape` meets its contract, test by test. Assumes nothing.
-use mathlib.Core.Path.{_≡_, sym, _∙_}
+use mathlib.Core.Path.{sym, _∙_}
 use Rattle.plant_words.proofs.Answering.{too-few, too-many, whole-shape, bad-flag}
 use borrow.Author.Needs.{needs}
 use Rattle.plant_words.proofs.shape.Statement.{statement}

@@ -1,8 +1,8 @@
 -- `plant_words::ticks_of` meets its contract: the ticks read so far stand in front. Assumes nothing.
-use Prim.Native.Nat.{_+_, _-_, _≤_}
-use mathlib.Core.Path.{_≡_, refl, sym, ap, _∙_}
+use Prim.Native.Nat.{_-_, _≤_}
+use mathlib.Core.Path.{_≡_, refl, _∙_}
 use native.Mathlib.Omega.{arith}
-use lib.ListN.{length, take, drop, replicate}
+use lib.ListN.{take, drop, replicate}
 use lib.Seq.{paste, paste-zero}
 use Rattle.plant_words.proofs.Writing.{one-more, all-over}
 use Rattle.plant_words.proofs.Walking.{length-part, part-at}

@@ -22,8 +22,8 @@ wrapping-add-u64-requires c κs = tt
 array-read-if1 : tie.Need-array-read-if1 Inv-loop μ-loop
 array-read-if1 c = omega arith
 
-one-more-requires : tie.Need-one-more-requires Inv-loop μ-loop
-one-more-requires c κs = tt
+wrapping-add-u64-requires-2 : tie.Need-wrapping-add-u64-requires-2 Inv-loop μ-loop
+wrapping-add-u64-requires-2 c κs = tt
 
 loop-less : tie.Need-loop-less Inv-loop μ-loop
 loop-less c = omega arith
@@ -50,7 +50,7 @@ bits-of-spec =
     sub-i
     wrapping-add-u64-requires
     array-read-if1
-    one-more-requires
+    wrapping-add-u64-requires-2
     loop-less
     loop-again
     loop-less-2

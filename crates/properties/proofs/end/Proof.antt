@@ -8,8 +8,10 @@ use Prim.Native.Nat.{ℕ}
 use lib.IntN.{ℤ}
 use lib.ListN.{length}
 use Rattle.snapshots.specs.Cluster.{clusterIn}
-use Rattle.snapshots.specs.Fits.{plantCount, snapshotFits, trackerFits}
-use Rattle.snapshots.proofs.Known.{count-known, snapshot-known}
+use Rattle.basis.specs.Basis.{plantCount}
+use Rattle.basis.proofs.Laws.{between}
+use Rattle.snapshots.specs.Fits.{snapshotFits, trackerFits}
+use Rattle.snapshots.proofs.Known.{snapshot-known}
 use Rattle.convergence.specs.Convergence.{converged}
 use Rattle.convergence.specs.Core.{coreFits}
 use Rattle.convergence.proofs.Core.{core-known}
@@ -57,7 +59,7 @@ returns c =
 snapshot-fits-requires : tie.Need-snapshot-fits-requires
 snapshot-fits-requires c κs =
     let args = c .before .before .before .before .before .before .args in
-    count-known (args .n) (sym (c .before .plant-count .ensures) ∙ not-false _ (c .if1 .left)) .1
+    between (args .n) (sym (c .before .plant-count .ensures) ∙ not-false _ (c .if1 .left)) .1
 
 returns-2 : tie.Need-returns-2
 returns-2 c =
@@ -78,7 +80,7 @@ core-fits-requires : tie.Need-core-fits-requires
 core-fits-requires c κs =
     let args = c .before .before .before .before .before .before .before .before .before .args in
     let the-plant-count = c .before .before .before .before .plant-count in
-    count-known (args .n) (sym (the-plant-count .ensures) ∙ not-false _ (c .before .before .before .if1 .left)) .1
+    between (args .n) (sym (the-plant-count .ensures) ∙ not-false _ (c .before .before .before .if1 .left)) .1
 
 returns-4 : tie.Need-returns-4
 returns-4 c =
@@ -95,7 +97,7 @@ tracker-fits-requires c κs =
     let args = c .before .before .before .before .before .before .before .before .before .before .before .args in
     let the-plant-count = c .before .before .before .before .before .before .plant-count in
     let if1 = c .before .before .before .before .before .if1 in
-    count-known (args .n) (sym (the-plant-count .ensures) ∙ not-false _ (if1 .left)) .1
+    between (args .n) (sym (the-plant-count .ensures) ∙ not-false _ (if1 .left)) .1
 
 returns-5 : tie.Need-returns-5
 returns-5 c =

@@ -7,9 +7,9 @@ use mathlib.Core.List.{List}
 use mathlib.Core.Path.{_≡_, sym, ap, _∙_}
 use Prim.Native.Nat.{ℕ, suc, _-_}
 use lib.ListN.{length, set, replicate}
-use Rattle.snapshots.specs.Fits.{plantCount}
+use Rattle.basis.specs.Basis.{plantCount}
+use Rattle.basis.proofs.Laws.{between}
 use Rattle.snapshots.specs.Layout.{trackerWords}
-use Rattle.snapshots.proofs.Known.{count-known}
 use Rattle.properties.specs.Calls.{freshAnswer, freshWords}
 use Rattle.verdicts.specs.declared.Answer.the-variants.{Pass, Refused}
 use Rattle.verdicts.specs.declared.Refusal.the-variants.{PlantCount, BadTracker}
@@ -44,7 +44,7 @@ returns c =
 
 tracker-words-requires : tie.Need-tracker-words-requires
 tracker-words-requires c κs =
-    count-known (c .before .before .before .args .n) (sym (c .before .plant-count .ensures) ∙ not-false _ (c .if1 .left)) .1
+    between (c .before .before .before .args .n) (sym (c .before .plant-count .ensures) ∙ not-false _ (c .if1 .left)) .1
 
 returns-2 : tie.Need-returns-2
 returns-2 c =

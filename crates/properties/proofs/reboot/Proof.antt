@@ -7,9 +7,11 @@ use mathlib.Core.List.{List}
 use mathlib.Core.Path.{_≡_, sym, _∙_}
 use Prim.Native.Nat.{ℕ, _≤_, _<_}
 use lib.ListN.{set}
-use Rattle.snapshots.specs.Fits.{plantCount, trackerFits}
+use Rattle.basis.specs.Basis.{plantCount}
+use Rattle.basis.proofs.Laws.{between}
+use Rattle.snapshots.specs.Fits.{trackerFits}
 use Rattle.snapshots.specs.Layout.{lastAt}
-use Rattle.snapshots.proofs.Known.{count-known, tracker-known}
+use Rattle.snapshots.proofs.Known.{tracker-known}
 use Rattle.properties.specs.Calls.{rebootAnswer, rebootWords}
 use Rattle.verdicts.specs.declared.Answer.the-variants.{Pass, Refused}
 use Rattle.verdicts.specs.declared.Refusal.the-variants.{PlantCount, NoSuchPlant, BadTracker}
@@ -49,7 +51,7 @@ returns-2 c =
 tracker-fits-requires : tie.Need-tracker-fits-requires
 tracker-fits-requires c κs =
     let args = c .before .before .before .before .before .args in
-    count-known (args .n) (sym (c .before .before .before .plant-count .ensures) ∙ not-false _ (c .before .before .if1 .left)) .1
+    between (args .n) (sym (c .before .before .before .plant-count .ensures) ∙ not-false _ (c .before .before .if1 .left)) .1
 
 same-length : tie.Need-same-length
 same-length c = search needs
@@ -67,14 +69,14 @@ add-tracker c =
     let args = c .before .before .before .before .before .before .before .args in
     let the-plant-count = c .before .before .before .before .before .plant-count in
     let if1 = c .before .before .before .before .if1 in
-    omega (arith, count-known (args .n) (sym (the-plant-count .ensures) ∙ not-false _ (if1 .left)) .1)
+    omega (arith, between (args .n) (sym (the-plant-count .ensures) ∙ not-false _ (if1 .left)) .1)
 
 mul-tracker : tie.Need-mul-tracker
 mul-tracker c =
     let args = c .before .before .before .before .before .before .before .args in
     let the-plant-count = c .before .before .before .before .before .plant-count in
     let if1 = c .before .before .before .before .if1 in
-    omega (arith, count-known (args .n) (sym (the-plant-count .ensures) ∙ not-false _ (if1 .left)) .1)
+    omega (arith, between (args .n) (sym (the-plant-count .ensures) ∙ not-false _ (if1 .left)) .1)
 
 slice-write-tracker : tie.Need-slice-write-tracker
 slice-write-tracker c =

@@ -6,8 +6,10 @@ use mathlib.Core.List.{List}
 use mathlib.Core.Path.{_≡_, sym, _∙_}
 use Prim.Native.Nat.{ℕ}
 use Rattle.snapshots.specs.Cluster.{clusterIn}
-use Rattle.snapshots.specs.Fits.{plantCount, snapshotFits, trackerFits}
-use Rattle.snapshots.proofs.Known.{count-known, snapshot-known, tracker-known}
+use Rattle.basis.specs.Basis.{plantCount}
+use Rattle.basis.proofs.Laws.{between}
+use Rattle.snapshots.specs.Fits.{snapshotFits, trackerFits}
+use Rattle.snapshots.proofs.Known.{snapshot-known, tracker-known}
 use Rattle.properties.specs.Calls.{tickRefusal, tickAnswer}
 use Rattle.properties.specs.Ticks.{judged}
 use Rattle.verdicts.specs.declared.Answer.the-variants.{Refused}
@@ -43,7 +45,7 @@ returns c =
 snapshot-fits-requires : tie.Need-snapshot-fits-requires
 snapshot-fits-requires c κs =
     let args = c .before .before .before .before .before .args in
-    count-known (args .n) (sym (c .before .plant-count .ensures) ∙ not-false _ (c .if1 .left)) .1
+    between (args .n) (sym (c .before .plant-count .ensures) ∙ not-false _ (c .if1 .left)) .1
 
 returns-2 : tie.Need-returns-2
 returns-2 c =
@@ -54,7 +56,7 @@ returns-2 c =
 tracker-fits-requires : tie.Need-tracker-fits-requires
 tracker-fits-requires c κs =
     let args = c .before .before .before .before .before .before .before .args in
-    count-known (args .n) (sym (c .before .before .before .plant-count .ensures) ∙ not-false _ (c .before .before .if1 .left)) .1
+    between (args .n) (sym (c .before .before .before .plant-count .ensures) ∙ not-false _ (c .before .before .if1 .left)) .1
 
 returns-3 : tie.Need-returns-3
 returns-3 c =

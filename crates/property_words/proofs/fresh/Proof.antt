@@ -1,6 +1,6 @@
 -- `property_words::fresh` meets its contract. Assumes nothing.
-use mathlib.Core.Path.{_≡_, sym, ap, _∙_}
-use Rattle.property_words.specs.Told.{answerNumber, toldBy}
+use mathlib.Core.Path.{ap, _∙_}
+use Rattle.property_words.specs.Told.{answerNumber}
 use borrow.Author.Needs.{needs}
 use Rattle.property_words.proofs.fresh.Statement.{statement}
 use Rattle.property_words.proofs.fresh.Tie as tie

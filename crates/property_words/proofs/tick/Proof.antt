@@ -1,5 +1,5 @@
 -- `property_words::tick` meets its contract. Assumes nothing.
-use mathlib.Core.Path.{_≡_, ap, _∙_}
+use mathlib.Core.Path.{ap, _∙_}
 use Rattle.verdicts.specs.declared.Answer.{Answer}
 use Rattle.property_words.specs.Told.{answerNumber, toldBy}
 use borrow.Author.Needs.{needs}

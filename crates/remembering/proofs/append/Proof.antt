@@ -6,7 +6,8 @@ use Prim.Native.Nat.{ℕ, _+_, _-_, _*_, _≤_, _<_}
 use lib.ListN.{length}
 use Rattle.snapshots.specs.Below.{numbered}
 use Rattle.snapshots.specs.Cluster.{Entry, wordsOfEntry, wordsOf, entryIn, clusterIn}
-use Rattle.snapshots.specs.Layout.{entryAt, canonicalAt, laid}
+use Rattle.basis.specs.Basis.{laid}
+use Rattle.snapshots.specs.Layout.{entryAt, canonicalAt}
 use Rattle.snapshots.proofs.Below.{length-numbered, numbered-more, numbered-none}
 use Rattle.snapshots.proofs.Laid.{laid-none, laid-on}
 use Rattle.agreement.specs.Agreement.{committer}

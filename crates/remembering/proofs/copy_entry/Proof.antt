@@ -5,7 +5,7 @@ use mathlib.Core.List.{List, [], _∷_}
 use mathlib.Core.Path.{_≡_, ap, _∙_}
 use Prim.Native.Nat.{ℕ, _+_, _<_}
 use lib.ListN.{length, getD, set, length-set}
-use Rattle.snapshots.specs.Layout.{laid}
+use Rattle.basis.specs.Basis.{laid}
 use Rattle.snapshots.proofs.Laid.{laid-set, laid-next}
 use Rattle.remembering.proofs.copy_entry.Statement.{statement}
 use Rattle.remembering.proofs.copy_entry.Tie as tie

@@ -6,7 +6,8 @@ use mathlib.Core.Path.{_≡_, refl, ap, _∙_}
 use Prim.Native.Nat.{ℕ, _+_, _-_, _≤_}
 use lib.ListN.{length, getD, set, length-set}
 use Rattle.snapshots.specs.Below.{numbered}
-use Rattle.snapshots.specs.Layout.{commitAt, laid}
+use Rattle.basis.specs.Basis.{laid}
+use Rattle.snapshots.specs.Layout.{commitAt}
 use Rattle.snapshots.proofs.Laid.{laid-numbered, laid-start, laid-first}
 use Rattle.remembering.proofs.put_commits.Statement.{statement}
 use Rattle.remembering.proofs.put_commits.Tie as tie

@@ -8,7 +8,8 @@ use Prim.Native.Nat.{ℕ, _+_, _-_, _≤_, _<_}
 use lib.ListN.{length, getD}
 use Rattle.snapshots.specs.Below.{numbered}
 use Rattle.snapshots.specs.Cluster.{clusterIn}
-use Rattle.snapshots.specs.Layout.{commitAt, entryAt, lastAt, seenAt, laid}
+use Rattle.basis.specs.Basis.{laid}
+use Rattle.snapshots.specs.Layout.{commitAt, entryAt, lastAt, seenAt}
 use Rattle.snapshots.specs.Shape.{Snapshot, Tracked, Forward}
 use Rattle.snapshots.proofs.Held.{last-held}
 use Rattle.remembering.specs.Remembering.{withIds}

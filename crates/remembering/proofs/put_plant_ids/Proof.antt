@@ -6,7 +6,8 @@ use Prim.Native.Nat.{ℕ, _+_, _-_, _≤_}
 use lib.ListN.{length, getD, set, length-set}
 use Rattle.snapshots.specs.Below.{numbered}
 use Rattle.snapshots.specs.Cluster.{last}
-use Rattle.snapshots.specs.Layout.{entryAt, seenAt, laid}
+use Rattle.basis.specs.Basis.{laid}
+use Rattle.snapshots.specs.Layout.{entryAt, seenAt}
 use Rattle.snapshots.proofs.Laid.{laid-numbered, laid-start}
 use Rattle.remembering.proofs.put_plant_ids.Statement.{statement}
 use Rattle.remembering.proofs.put_plant_ids.Tie as tie

@@ -7,7 +7,8 @@ use Prim.Native.Nat.{ℕ, _+_, _-_, _≤_}
 use lib.ListN.{getD}
 use Rattle.snapshots.specs.Below.{numbered, maxBelow}
 use Rattle.snapshots.specs.Cluster.{wordsOf, plant, entryIn, clusterIn}
-use Rattle.snapshots.specs.Layout.{logEntries, commitAt, entryAt, canonicalAt, laid}
+use Rattle.basis.specs.Basis.{laid}
+use Rattle.snapshots.specs.Layout.{logEntries, commitAt, entryAt, canonicalAt}
 use Rattle.snapshots.specs.Shape.{Snapshot, Tracked, Forward}
 use Rattle.snapshots.proofs.Below.{numbered-same, max-start, max-bound}
 use Rattle.snapshots.proofs.Held.{canonical-long, commit-held}

@@ -1,5 +1,5 @@
 -- `replay::agrees` is safe: what is compared was written. Assumes nothing.
-use mathlib.Core.Path.{_≡_, sym}
+use mathlib.Core.Path.{sym}
 use Prim.Native.Nat.{_≤_}
 use lib.ListN.{length}
 use lib.Seq.{length-take-le}
@@ -12,6 +12,9 @@ written : (c : tie.After-known-told) → c .before .written .given .0 .0 ≤ len
 written c =
     let r = c .before .before .before .before .report in
     handed _ _ (r .last .1 .0) (c .before .written .given .0 .0) (r .result) (r .ensures .0) (r .ensures .1) (c .before .written .given .1)
+
+room-requires : tie.Need-room-requires
+room-requires c κs = search needs
 
 slice-aggregate-report : tie.Need-slice-aggregate-report
 slice-aggregate-report c = search needs
@@ -44,6 +47,7 @@ pub agrees-spec : {M : Type 1} → statement M
 agrees-spec =
     tie.close
     (tie.spec
+    room-requires
     slice-aggregate-report
     report-requires
     enum-known-written

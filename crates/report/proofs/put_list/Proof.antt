@@ -1,9 +1,9 @@
 -- `report::put_list` meets its contract. The loop's invariant: the lines of the first i events stand. Assumes nothing.
 use native.Mathlib.Omega.{arith}
-use mathlib.Core.Path.{_≡_, refl, sym, ap, _∙_}
-use Prim.Native.Nat.{ℕ, _+_, _-_, _*_, _≤_}
+use mathlib.Core.Path.{_≡_, ap, _∙_}
+use Prim.Native.Nat.{_+_, _-_, _*_, _≤_}
 use lib.ListN.{length, take, length-take, take-append-drop}
-use Rattle.numeral.specs.Writing.{laid}
+use Rattle.basis.specs.Basis.{laid}
 use Rattle.order.specs.Order.{eventsIn}
 use Rattle.report.specs.Report.{eventText, eventsText}
 use Rattle.report.proofs.Laying.{length-laid, laid-two}

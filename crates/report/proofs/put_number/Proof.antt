@@ -3,10 +3,11 @@ use borrow.Author.Needs.{needs}
 use borrow.Author.Tests.{le-leb}
 use native.Mathlib.Omega.{arith}
 use mathlib.Core.List.{List}
-use mathlib.Core.Path.{_≡_, refl, sym, ap, _∙_}
+use mathlib.Core.Path.{_≡_, sym, _∙_}
 use Prim.Native.Nat.{ℕ, _+_, _≤_}
 use lib.ListN.{length}
-use Rattle.numeral.specs.Writing.{decimal, laid, writtenOf, outOf}
+use Rattle.basis.specs.Basis.{laid}
+use Rattle.numeral.specs.Writing.{decimal, writtenOf, outOf}
 use Rattle.numeral.specs.declared.Written.the-variants.{Upto, NoRoom}
 use Rattle.report.proofs.Lengths.{decimal-most}
 use Rattle.report.proofs.put_number.Statement.{statement}

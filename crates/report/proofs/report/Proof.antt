@@ -2,11 +2,11 @@
 use borrow.Author.Tests.{le-leb, lt-leb}
 use native.Mathlib.Omega.{arith}
 use mathlib.Core.List.{List, _++_}
-use mathlib.Core.Path.{_≡_, refl, sym, ap, _∙_}
-use Prim.Native.Nat.{ℕ, _+_, _*_, _/_, _≤_, _<_}
+use mathlib.Core.Path.{_≡_, sym, ap, _∙_}
+use Prim.Native.Nat.{ℕ, _+_, _*_, _≤_, _<_}
 use lib.ListN.{length, take, drop, replicate, length-replicate}
 use lib.Seq.{take-at}
-use Rattle.numeral.specs.Writing.{laid}
+use Rattle.basis.specs.Basis.{laid}
 use Rattle.order.specs.Order.{wordsOf, eventsIn}
 use Rattle.order.proofs.Laws.{length-wordsOf, eventsIn-wordsOf}
 use Rattle.script.specs.Scripts.{refusalNumber, answerOf, sortedEvents, wordsAfter}

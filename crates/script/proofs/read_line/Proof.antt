@@ -1,5 +1,5 @@
 -- `script::read_line` meets its contract, case by case of what the line says. Assumes nothing.
-use mathlib.Core.Path.{_≡_, sym, _∙_}
+use mathlib.Core.Path.{sym, _∙_}
 use Rattle.script.specs.Lines.{lineSays}
 use Rattle.script.proofs.Reading.{read-blank, read-faulty, read-as, fits-as}
 use Rattle.script.proofs.read_line.Statement.{statement}

@@ -1,11 +1,11 @@
 -- `script::read_script` meets its contract: words are written only once the answer is known. Assumes nothing.
 use native.Mathlib.Omega.{arith}
 use mathlib.Core.List.{List, _++_}
-use mathlib.Core.Path.{_≡_, refl, sym, ap, _∙_}
+use mathlib.Core.Path.{_≡_, sym, _∙_}
 use Prim.Native.Nat.{ℕ, _+_, _*_, _/_, _≤_, _<_, _^_}
 use lib.ListN.{length, take, drop, length-append, length-drop}
 use lib.Seq.{take-at, drop-at, length-take-le}
-use Rattle.numeral.specs.Writing.{laid}
+use Rattle.basis.specs.Basis.{laid}
 use Rattle.order.specs.Order.{wordsOf, eventsIn, sorted}
 use Rattle.order.proofs.Laws.{length-wordsOf, eventsIn-wordsOf}
 use Rattle.script.specs.Scripts.{said, eventsOf, judged, sortedEvents, wordsGiven}

@@ -1,8 +1,8 @@
 -- `words::find` meets its contract, by the walk to the first byte that is the one looked for. Assumes nothing.
 use borrow.Author.Tests.{eq-eqb, ne-eqb}
 use native.Mathlib.Omega.{arith}
-use mathlib.Core.Path.{_≡_, refl, sym}
-use Prim.Native.Nat.{ℕ, _-_}
+use mathlib.Core.Path.{refl, sym}
+use Prim.Native.Nat.{_-_}
 use lib.Dec.{eqb}
 use lib.ListN.{length, getD}
 use Rattle.words.proofs.Walk.{Walked, walk-on, walk-stops, walk-ends}

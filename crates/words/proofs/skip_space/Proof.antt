@@ -1,10 +1,10 @@
 -- `words::skip_space` meets its contract, by the walk to the first byte that is no white space. Assumes nothing.
 use native.Mathlib.Omega.{arith}
 use mathlib.Core.Bool.{not}
-use mathlib.Core.Path.{_≡_, refl, sym, ap, _∙_}
-use Prim.Native.Nat.{ℕ, _-_}
+use mathlib.Core.Path.{refl, sym, ap, _∙_}
+use Prim.Native.Nat.{_-_}
 use lib.ListN.{length}
-use Rattle.words.specs.Words.{isSpace, notSpace}
+use Rattle.words.specs.Words.{notSpace}
 use Rattle.words.proofs.Walk.{Walked, walk-on, walk-stops, walk-ends}
 use Rattle.words.proofs.skip_space.Statement.{statement}
 use Rattle.words.proofs.skip_space.Tie as tie

@@ -1,8 +1,7 @@
 -- `words::skip_word` meets its contract, by the walk to the first white space. Assumes nothing.
 use native.Mathlib.Omega.{arith}
-use mathlib.Core.Bool.{not}
-use mathlib.Core.Path.{_≡_, refl, sym, ap, _∙_}
-use Prim.Native.Nat.{ℕ, _-_}
+use mathlib.Core.Path.{refl, sym, _∙_}
+use Prim.Native.Nat.{_-_}
 use lib.ListN.{length}
 use Rattle.words.specs.Words.{isSpace, notSpace}
 use Rattle.words.proofs.Walk.{Walked, walk-on, walk-stops, walk-ends}

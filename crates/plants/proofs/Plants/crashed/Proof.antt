@@ -1,7 +1,6 @@
 -- `plants::Plants::crashed` meets its contract: the count rises by one at most. Assumes nothing.
 use native.Mathlib.Omega.{arith}
-use Rattle.plants.specs.Faults.{isUp, after}
-use Rattle.plants.proofs.Counting.{at-most-one}
+use Rattle.plants.specs.Faults.{after}
 use borrow.Author.Needs.{needs}
 use Rattle.plants.proofs.Plants.crashed.Statement.{statement}
 use Rattle.plants.proofs.Plants.crashed.Tie as tie
@@ -9,13 +8,11 @@ use Rattle.plants.proofs.Plants.crashed.Tie as tie
 element-copy-out-was-up : tie.Need-element-copy-out-was-up
 element-copy-out-was-up c = search needs
 
-count-requires : tie.Need-count-requires
-count-requires c κs = search needs
+flag-word-requires : tie.Need-flag-word-requires
+flag-word-requires c κs = search needs
 
 add-me : tie.Need-add-me
-add-me c =
-    let a = c .before .before .args in
-    omega (arith, at-most-one (isUp a.self a.id) _ (c .count .ensures))
+add-me c = omega (arith, c .flag-word .ensures .1)
 
 element-write-me : tie.Need-element-write-me
 element-write-me c = search needs
@@ -28,14 +25,14 @@ element-write-me-2 c = search needs
 
 returns : tie.Need-returns
 unfolding after
-returns c = rw (c .count .ensures)
+returns c = rw (c .flag-word .ensures .0)
 
 pub crashed-spec : {M : Type 1} → statement M
 crashed-spec =
     tie.close
     (tie.spec
     element-copy-out-was-up
-    count-requires
+    flag-word-requires
     add-me
     element-write-me
     mul-me

@@ -2,7 +2,7 @@
 use mathlib.Core.Path.{sym, _∙_}
 use borrow.Author.Tests.{not-true, not-false}
 use Rattle.plants.specs.State.{made}
-use Rattle.plants.proofs.Testing.{between}
+use Rattle.basis.proofs.Laws.{between}
 use borrow.Author.Needs.{needs}
 use Rattle.plants.proofs.Plants.new.Statement.{statement}
 use Rattle.plants.proofs.Plants.new.Tie as tie

@@ -4,8 +4,10 @@ use mathlib.Core.Path.{_≡_, sym, _∙_}
 use borrow.Author.Needs.{needs}
 use borrow.Author.Tests.{not-true, not-false}
 use lib.ListN.{drop}
-use Rattle.plants.specs.State.{plantCount, noneSet}
-use Rattle.plants.proofs.Testing.{between, bad-count, bad-form, good, up-past, parted-past, by-counts}
+use Rattle.basis.specs.Basis.{plantCount}
+use Rattle.basis.proofs.Laws.{between}
+use Rattle.plants.specs.State.{noneSet}
+use Rattle.plants.proofs.Testing.{bad-count, bad-form, good, up-past, parted-past, by-counts}
 use Rattle.plants.proofs.Plants.test.Statement.{statement}
 use Rattle.plants.proofs.Plants.test.Tie as tie
 

@@ -2,7 +2,8 @@
 use mathlib.Core.Path.{_≡_, sym, ap, _∙_}
 use Prim.Native.Nat.{_≤_}
 use native.Mathlib.Omega.{arith}
-use Rattle.plants.specs.State.{most, tested}
+use Rattle.basis.specs.Basis.{most}
+use Rattle.plants.specs.State.{tested}
 use Rattle.plants.specs.declared.Judged.the-variants.{Is}
 use Rattle.plants.specs.declared.refusal.Test.the-variants.{Passed}
 use Rattle.plants.proofs.Testing.{bounds}

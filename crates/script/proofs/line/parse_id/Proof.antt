@@ -1,6 +1,6 @@
 -- `script::line::parse_id` meets its contract. Assumes nothing.
 use borrow.Author.Tests.{not-true, not-false}
-use mathlib.Core.Bool.{true, false}
+use mathlib.Core.Bool.{true}
 use mathlib.Core.Path.{_≡_, sym, ap, _∙_}
 use Rattle.script.specs.Faults.{needsId}
 use Rattle.script.specs.Lines.{withNumber, present}

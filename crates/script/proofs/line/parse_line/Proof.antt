@@ -3,12 +3,12 @@
 use borrow.Author.Needs.{needs}
 use native.Mathlib.Omega.{arith}
 use mathlib.Core.List.{List}
-use mathlib.Core.Path.{_≡_, sym, ap, _∙_}
-use Prim.Native.Nat.{ℕ, _+_, _≤_}
+use mathlib.Core.Path.{_≡_, sym, _∙_}
+use Prim.Native.Nat.{ℕ, _+_}
 use lib.Dec.{eqb}
-use lib.ListN.{length, take, drop}
+use lib.ListN.{take}
 use lib.Seq.{length-take-le}
-use Rattle.words.specs.Words.{until, cutAt, strip, wordsOf}
+use Rattle.words.specs.Words.{until, cutAt, wordsOf}
 use Rattle.script.specs.Lines.{ofWords, lineSays}
 use Rattle.words.proofs.Walk.{until-within}
 use Rattle.words.proofs.Cutting.{strip-words}

@@ -1,5 +1,5 @@
 -- `script::line::parse_words` meets its contract, by the line's first three words. Assumes nothing.
-use mathlib.Core.Path.{_≡_, sym, ap, _∙_}
+use mathlib.Core.Path.{sym, ap, _∙_}
 use lib.ListN.{drop}
 use Rattle.words.specs.Words.{wordsOf}
 use Rattle.script.specs.Lines.{ofWords}

@@ -1,10 +1,10 @@
--- `network_replay::hash_words` is safe and ends: the place stays within the words. Assumes nothing.
+-- `tape::hash_words` is safe and ends: the place stays within the words. Assumes nothing.
 use native.Mathlib.Omega.{arith}
 use borrow.Author.Needs.{needs}
 use Prim.Native.Nat.{_-_, _≤_}
 use lib.ListN.{length}
-use Rattle.network_replay.proofs.hash_words.Statement.{statement}
-use Rattle.network_replay.proofs.hash_words.Tie as tie
+use Rattle.tape.proofs.hash_words.Statement.{statement}
+use Rattle.tape.proofs.hash_words.Tie as tie
 
 abbrev Inv-loop : tie.InvT-loop
 Inv-loop words hash h₀ i₀ h i = i ≤ length words

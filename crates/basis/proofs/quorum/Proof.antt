@@ -1,8 +1,8 @@
--- `lineup::quorum` meets its contract. Assumes nothing.
+-- `basis::quorum` meets its contract. Assumes nothing.
 use mathlib.Core.Path.{refl}
 use native.Mathlib.Omega.{arith}
-use Rattle.lineup.proofs.quorum.Statement.{statement}
-use Rattle.lineup.proofs.quorum.Tie as tie
+use Rattle.basis.proofs.quorum.Statement.{statement}
+use Rattle.basis.proofs.quorum.Tie as tie
 
 add-result : tie.Need-add-result
 add-result c = omega arith

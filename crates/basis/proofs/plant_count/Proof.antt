@@ -1,8 +1,8 @@
--- `plants::plant_count` meets its contract. Assumes nothing.
+-- `basis::plant_count` meets its contract. Assumes nothing.
 use mathlib.Core.Path.{sym}
-use Rattle.plants.proofs.Testing.{too-few, not-few}
-use Rattle.plants.proofs.plant_count.Statement.{statement}
-use Rattle.plants.proofs.plant_count.Tie as tie
+use Rattle.basis.proofs.Laws.{too-few, not-few}
+use Rattle.basis.proofs.plant_count.Statement.{statement}
+use Rattle.basis.proofs.plant_count.Tie as tie
 
 returns : tie.Need-returns
 returns c = sym (too-few _ (c .if1 .taken))

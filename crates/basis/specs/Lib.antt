@@ -1,0 +1,2 @@
+-- The definitions that several crates' contracts cite.
+pub mod Basis
