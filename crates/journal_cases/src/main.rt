@@ -8,7 +8,7 @@ fn main() {
     journal_replay::replay(&list[..n], &mut journal, &mut counts);
     tape::print_counts(
         b"cases=differing=begun=options set=lost=replayed=queued once=not faulted=delayed=left full=none taken=some taken=all taken=",
-        &counts[..13],
+        &counts[0..13],
     );
     tape::print_counts(b"network's word put=", &counts[15..16]);
     tape::print_counts(
