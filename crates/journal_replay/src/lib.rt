@@ -13,6 +13,7 @@
 //   last  the hash expected of the journal's words
 use fates::NetworkOptions;
 use network::Network;
+use network_replay::Change;
 use network_replay::Done;
 ghost use Prim.Native.Nat.{_+_, _≤_};
 ghost use lib.ListN.{length};
@@ -202,31 +203,26 @@ fn rewind_outcome(k: u64) -> usize {
 }
 
 // Counts a call that the journal refuses.
-fn meet_refusal(counts: &mut [u64], number: u64, forged_rewind: bool) {
-    tape::count_if(counts, number == 31, REFUSED);
+fn meet_refusal(counts: &mut [u64], number: u64, rewinds: bool, forged: bool) {
+    if number == 31 {
+        tape::count(counts, REFUSED);
+        tape::count_if_both(counts, rewinds, forged, FORGED_REFUSED);
+        return;
+    }
     tape::count_if(counts, number == 32, REFUSED + 1);
     tape::count_if(counts, number == 33, REFUSED + 2);
-    tape::count_if(counts, number == 31 && forged_rewind, FORGED_REFUSED);
 }
 
-// Counts a rewind that is done. It went over a take if messages are no longer delivered, over a change of options if they are others.
-fn meet_rewind(counts: &mut [u64], before: Network, after: Network, k: u64, forged: bool) {
-    let old = network_replay::hash_options(before.options);
-    let new = network_replay::hash_options(after.options);
+// Counts a rewind that is done. It went over a take if messages delivered are pending again.
+fn meet_rewind(counts: &mut [u64], change: Change, k: u64, forged: bool) {
     tape::count(counts, rewind_outcome(k));
-    tape::count_if(counts, after.delivered < before.delivered, OVER_TAKE);
-    tape::count_if(counts, old != new, OVER_OPTIONS);
-    tape::count_if(counts, forged && k != 0, FORGED_REWOUND);
+    tape::count_if(counts, change.takes_back, OVER_TAKE);
+    tape::count_if(counts, change.sets_options, OVER_OPTIONS);
+    tape::count_if_both(counts, forged, k != 0, FORGED_REWOUND);
 }
 
 // Counts a call that only a journal has, and that is done.
-fn meet_in_journal(
-    counts: &mut [u64],
-    before: Network,
-    after: Network,
-    case: [u64; 22],
-    forged: bool,
-) {
+fn meet_in_journal(counts: &mut [u64], change: Change, case: [u64; 22], forged: bool) {
     if case[0] == 8 {
         tape::count(counts, WORD_PUT);
         return;
@@ -235,7 +231,7 @@ fn meet_in_journal(
         tape::count(counts, MARKED);
         return;
     }
-    meet_rewind(counts, before, after, case[6], forged);
+    meet_rewind(counts, change, case[6], forged);
 }
 
 // Whether an expected outcome is one that a network has too.
@@ -250,19 +246,18 @@ fn is_plain(case: [u64; 22]) -> bool {
     33 < refusal
 }
 
-// Counts a call, which made a network of the one before.
-fn meet(counts: &mut [u64], before: Network, after: Network, case: [u64; 22], forged: bool) {
+// Counts a call, which made that change.
+fn meet(counts: &mut [u64], change: Change, case: [u64; 22], forged: bool) {
     if is_plain(case) {
-        network_replay::meet(counts, before, after, case);
+        network_replay::meet(counts, change, case);
         return;
     }
     tape::count(counts, network_replay::CASES);
     if case[1] == 0 {
-        meet_in_journal(counts, before, after, case, forged);
+        meet_in_journal(counts, change, case, forged);
         return;
     }
-    let rewinds = case[0] == 10;
-    meet_refusal(counts, case[1], rewinds && forged);
+    meet_refusal(counts, case[1], case[0] == 10, forged);
 }
 
 // ---- The list
@@ -328,7 +323,12 @@ fn replay_call(
     let room_now = room_after(room, case, words.len());
     let forged_now = forged_after(forged, case[0]);
     let after = done.network;
-    meet(counts, network, after, case, forged_now);
+    meet(
+        counts,
+        network_replay::changed(network, after),
+        case,
+        forged_now,
+    );
     let same = hash_journal(words, room_now) == hash;
     tape::count_if(counts, !agrees(done, case, same), network_replay::DIFFERING);
     Turn {

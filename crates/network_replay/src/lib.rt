@@ -391,8 +391,8 @@ pub fn agrees(done: Done, case: [u64; 22]) -> bool {
 
 // ---- What is counted
 
-// Which outcome a send met, in a network with those options.
-fn send_outcome(options: NetworkOptions, case: [u64; 22]) -> usize {
+// Which outcome a send met.
+fn send_outcome(faults_clients: bool, case: [u64; 22]) -> usize {
     if case[2] == 1 {
         return LOST;
     }
@@ -400,7 +400,7 @@ fn send_outcome(options: NetworkOptions, case: [u64; 22]) -> usize {
         return REPLAYED;
     }
     if case[10] == fates::REQUEST {
-        if !options.fault_client_messages {
+        if !faults_clients {
             return NOT_FAULTED;
         }
     }
@@ -419,7 +419,7 @@ fn take_outcome(taken: u64, pending: usize) -> usize {
 }
 
 // Which outcome a call met that is expected not to be refused.
-fn outcome(options: NetworkOptions, pending: usize, case: [u64; 22]) -> usize {
+fn outcome(change: Change, case: [u64; 22]) -> usize {
     let number = case[0];
     if number == 1 {
         return MADE;
@@ -428,10 +428,10 @@ fn outcome(options: NetworkOptions, pending: usize, case: [u64; 22]) -> usize {
         return OPTIONS_SET;
     }
     if number == 3 {
-        return send_outcome(options, case);
+        return send_outcome(change.faults_clients, case);
     }
     if number == 4 {
-        return take_outcome(case[2], pending);
+        return take_outcome(case[2], change.pending);
     }
     if number == 5 {
         return PENDING_TOLD;
@@ -453,19 +453,38 @@ fn refusal_place(number: u64) -> usize {
     REFUSED + (number - 20) as usize
 }
 
-// Counts a call, which made a network of the one before.
-pub fn meet(counts: &mut [u64], before: Network, after: Network, case: [u64; 22]) {
+// What the outcome of a call is told by, beside what is expected: whether messages to clients were faulted, and whether a copy was
+// delayed, messages delivered are pending again, or the options others; and how many are pending.
+pub struct Change {
+    pub faults_clients: bool,
+    pub delays: bool,
+    pub takes_back: bool,
+    pub sets_options: bool,
+    pub pending: usize,
+}
+
+pub fn changed(before: Network, after: Network) -> Change {
+    let options = before.options;
+    Change {
+        faults_clients: options.fault_client_messages,
+        delays: before.delayed < after.delayed,
+        takes_back: after.delivered < before.delivered,
+        sets_options: hash_options(options) != hash_options(after.options),
+        pending: after.pending,
+    }
+}
+
+// Counts a call, which made that change.
+pub fn meet(counts: &mut [u64], change: Change, case: [u64; 22]) {
     tape::count(counts, CASES);
     if case[1] != 0 {
         tape::count(counts, refusal_place(case[1]));
         return;
     }
-    tape::count(counts, outcome(before.options, after.pending, case));
+    tape::count(counts, outcome(change, case));
     let sent = case[0] == 3;
-    let delayed = before.delayed < after.delayed;
-    let full = after.pending == queue::CAPACITY;
-    tape::count_if(counts, sent && delayed, DELAYED);
-    tape::count_if(counts, sent && full, LEFT_FULL);
+    tape::count_if_both(counts, sent, change.delays, DELAYED);
+    tape::count_if_both(counts, sent, change.pending == queue::CAPACITY, LEFT_FULL);
 }
 
 // ---- The list
@@ -522,13 +541,14 @@ fn replay_call(list: &[u8], at: usize, network: Network, counts: &mut [u64]) -> 
         };
     }
     let case = case_at(list, at, size);
+    let next = at + 8 * size;
     let done = call(network, case);
     let after = done.network;
-    meet(counts, network, after, case);
+    meet(counts, changed(network, after), case);
     tape::count_if(counts, !agrees(done, case), DIFFERING);
     Turn {
         network: after,
-        next: at + 8 * size,
+        next,
     }
 }
 

@@ -129,8 +129,8 @@ fn outcome(case: [u64; 104]) -> usize {
 fn meet(counts: &mut [u64], case: [u64; 104]) {
     tape::count(counts, CASES);
     tape::count(counts, outcome(case));
-    let chosen = case[0] == 4 && case[22] != 2;
-    tape::count_if(counts, chosen, CORES + place_of(case[25] == 1));
+    let place = CORES + place_of(case[25] == 1);
+    tape::count_if_both(counts, case[0] == 4, case[22] != 2, place);
 }
 
 // ---- A case

@@ -79,6 +79,12 @@ pub fn count_if(counts: &mut [u64], met: bool, at: usize) {
     }
 }
 
+pub fn count_if_both(counts: &mut [u64], one: bool, other: bool, at: usize) {
+    if one {
+        count_if(counts, other, at);
+    }
+}
+
 // The place behind the key that begins at a place: each ends with its `=`.
 fn key_end(keys: &[u8], from: usize) -> usize
     requires { ⌜ from ≤ length (now keys) ⌝ }
