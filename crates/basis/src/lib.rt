@@ -26,6 +26,7 @@ pub fn quorum(n: usize) -> usize
     n / 2 + 1
 }
 
+// 1 for true, 0 for false.
 pub fn flag_word(flag: bool) -> u64
     ensures told { λ r. ⌜ r ≡ bit flag ⌝ }
     ensures small { λ r. ⌜ r ≤ 1 ⌝ }

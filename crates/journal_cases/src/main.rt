@@ -1,5 +1,6 @@
 // Replays the list of calls on a network with a journal on standard input and prints how often each outcome was met.
 // The list is a sample of what a plain evaluation of the rules expects; compare/README.md says how it is made.
+// The counts are printed in groups: network_replay and journal_replay say which outcome stands where.
 fn main() {
     let mut list = tape::room();
     let mut journal = [0u64; 2048];

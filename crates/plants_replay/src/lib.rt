@@ -58,16 +58,6 @@ pub struct Answer {
 
 // ---- What is counted
 
-// The second of two places if it holds.
-fn place_of(holds: bool) -> usize
-    ensures { λ r. ⌜ r ≤ 1 ⌝ }
-{
-    if holds {
-        return 1;
-    }
-    0
-}
-
 // Whether the state expected after a fault has another flag.
 fn changes_flags(case: [u64; 104]) -> bool {
     if case[2] != case[32] {
@@ -90,14 +80,14 @@ fn fault_place(fault: u64, changes: bool) -> usize {
     if 5 < fault {
         return OTHER;
     }
-    FAULTS + 2 * fault as usize + place_of(changes)
+    FAULTS + 2 * fault as usize + basis::flag_word(changes) as usize
 }
 
 fn verdict_place(number: u64, client: bool) -> usize {
     if 2 < number {
         return OTHER;
     }
-    VERDICTS + 2 * number as usize + place_of(client)
+    VERDICTS + 2 * number as usize + basis::flag_word(client) as usize
 }
 
 fn size_place(size: u64) -> usize {
@@ -129,7 +119,7 @@ fn outcome(case: [u64; 104]) -> usize {
 fn meet(counts: &mut [u64], case: [u64; 104]) {
     tape::count(counts, CASES);
     tape::count(counts, outcome(case));
-    let place = CORES + place_of(case[25] == 1);
+    let place = CORES + basis::flag_word(case[25] == 1) as usize;
     tape::count_if_both(counts, case[0] == 4, case[22] != 2, place);
 }
 

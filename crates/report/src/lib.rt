@@ -22,7 +22,7 @@ pub const ROOM: usize = 6144;
 // The bytes that are always enough: 28 for the line of the count, and 66 for each event.
 pub const ENOUGH: usize = 135196;
 
-// Room for every report. A program that takes it from here has its length proved.
+// Room for every report. The contract gives its length alone, which is all that lending it asks.
 pub fn room() -> [u8; ENOUGH]
     ensures { λ r. ⌜ 135196 ≡ length r ⌝ }
 {

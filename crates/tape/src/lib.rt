@@ -8,7 +8,7 @@ pub const FIRST_HASH: u64 = 0xcbf2_9ce4_8422_2325;
 
 // ---- The list
 
-// Room for a list. A program that takes it from here has its length proved.
+// Room for a list. The contract gives its length alone, which is all that lending it asks.
 pub fn room() -> [u8; 524288]
     ensures { λ r. ⌜ 524288 ≡ length r ⌝ }
 {
@@ -65,7 +65,7 @@ pub fn hash_words(words: &[u64], hash: u64) -> u64 {
 
 // ---- Counts
 
-// One more at a place. No list is long enough to wrap.
+// One more at a place; a place past the counts is passed over. No list is long enough to wrap.
 pub fn count(counts: &mut [u64], at: usize) {
     if at < counts.len() {
         let before = counts[at];
