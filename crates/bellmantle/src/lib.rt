@@ -17,12 +17,12 @@ ghost use Rattle.network.specs.Forms.{plainOf, letterOf};
 ghost use Rattle.network.specs.Calls.{written};
 ghost use Rattle.network_words.specs.Layout.{optionsFrom, networkIn};
 ghost use Rattle.network_words.specs.Calls.{numberOf, onDone, answerIn, headAfter, recordsAfter, sendTold, formIn, listIn};
-ghost use Rattle.batch.specs.Ticks.{ticked};
+ghost use Rattle.network_batch.specs.Ticks.{ticked};
 ghost use Rattle.journal.specs.Calls.{sends, takes, chooses, markAnswer, markWords};
 ghost use Rattle.journal_words.specs.Calls.{journalAnswer, journalHead, journalRecords, journalWords};
-ghost use Rattle.plant_words.specs.Calls.{newAnswer, newWords, applyAnswer, applyWords, nonceWords, verdictAnswer, verdictWords, coreAnswer, coreWords, coreAnswered};
+ghost use Rattle.plants_words.specs.Calls.{newAnswer, newWords, applyAnswer, applyWords, nonceWords, verdictAnswer, verdictWords, coreAnswer, coreWords, coreAnswered};
 ghost use Rattle.properties.specs.Calls.{freshAnswer, freshWords, rebootAnswer, rebootWords, tickAnswer, tickWords, endAnswer};
-ghost use Rattle.property_words.specs.Told.{answerNumber, toldBy};
+ghost use Rattle.properties_words.specs.Told.{answerNumber, toldBy};
 ghost use Rattle.bellmantle.specs.Packing.{packed};
 
 // ---- Fault scripts
@@ -179,7 +179,7 @@ pub extern "C" fn bellmantle_network_tick(
     ensures out { λ _. ⌜ out .exit .now ≡ ticked (head .entry .now) (records .entry .now) (sends .entry .now) (draws .entry .now) (extras .entry .now) now (out .entry .now) (told .entry .now) .out ⌝ }
     ensures told { λ _. ⌜ told .exit .now ≡ ticked (head .entry .now) (records .entry .now) (sends .entry .now) (draws .entry .now) (extras .entry .now) now (out .entry .now) (told .entry .now) .told ⌝ }
 {
-    batch::tick(head, records, sends, draws, extras, now, out, told)
+    network_batch::tick(head, records, sends, draws, extras, now, out, told)
 }
 
 // ---- Journal
@@ -294,7 +294,7 @@ pub extern "C" fn bellmantle_plants_new(n: u64, words: &mut [u64; 49]) -> u64
     ensures answer { λ r. ⌜ r ≡ newAnswer n ⌝ }
     ensures words { λ _. ⌜ now (words .exit) ≡ newWords n (now (words .entry)) ⌝ }
 {
-    plant_words::new(n, words)
+    plants_words::new(n, words)
 }
 
 // Injects a fault at a tick; a reboot's nonce is told.
@@ -311,7 +311,7 @@ pub extern "C" fn bellmantle_plants_apply(
     ensures words { λ _. ⌜ now (words .exit) ≡ applyWords (now (words .entry)) tick fault id (now (draws .entry)) ⌝ }
     ensures nonce { λ _. ⌜ now (nonce .exit) ≡ nonceWords (now (words .entry)) tick fault id (now (draws .entry)) (now (nonce .entry)) ⌝ }
 {
-    plant_words::apply(words, tick, fault, id, draws, nonce)
+    plants_words::apply(words, tick, fault, id, draws, nonce)
 }
 
 // What becomes of a message that is due at plant `to`: its verdict is told.
@@ -326,7 +326,7 @@ pub extern "C" fn bellmantle_plants_verdict(
     ensures answer { λ r. ⌜ r ≡ verdictAnswer (now (words .entry)) sort id to ⌝ }
     ensures told { λ _. ⌜ now (told .exit) ≡ verdictWords (now (words .entry)) sort id to (now (told .entry)) ⌝ }
 {
-    plant_words::verdict(words, sort, id, to, told)
+    plants_words::verdict(words, sort, id, to, told)
 }
 
 // Chooses the core of plants that stays up; `full` is no for 0 and yes otherwise.
@@ -342,7 +342,7 @@ pub extern "C" fn bellmantle_plants_choose_core(
     ensures words { λ _. ⌜ now (words .exit) ≡ coreWords (now (words .entry)) (now (recovering .entry)) (now (picks .entry)) full ⌝ }
     ensures told { λ _. ⌜ now (told .exit) ≡ coreAnswered (now (words .entry)) (now (recovering .entry)) (now (picks .entry)) full (now (told .entry)) ⌝ }
 {
-    plant_words::choose_core(words, recovering, picks, full, told)
+    plants_words::choose_core(words, recovering, picks, full, told)
 }
 
 // ---- Properties
@@ -353,7 +353,7 @@ pub extern "C" fn bellmantle_properties_fresh(n: u64, tracker: &mut [u64]) -> u6
     ensures answer { λ r. ⌜ r ≡ answerNumber (freshAnswer n (length (now (tracker .entry)))) ⌝ }
     ensures tracker { λ _. ⌜ now (tracker .exit) ≡ freshWords n (now (tracker .entry)) ⌝ }
 {
-    property_words::fresh(n, tracker)
+    properties_words::fresh(n, tracker)
 }
 
 // A plant came back without its memory.
@@ -362,7 +362,7 @@ pub extern "C" fn bellmantle_properties_reboot(n: u64, id: u64, tracker: &mut [u
     ensures answer { λ r. ⌜ r ≡ answerNumber (rebootAnswer n id (now (tracker .entry))) ⌝ }
     ensures tracker { λ _. ⌜ now (tracker .exit) ≡ rebootWords n id (now (tracker .entry)) ⌝ }
 {
-    property_words::reboot(n, id, tracker)
+    properties_words::reboot(n, id, tracker)
 }
 
 // After a tick.
@@ -378,7 +378,7 @@ pub extern "C" fn bellmantle_properties_tick(
     ensures tracker { λ _. ⌜ now (tracker .exit) ≡ tickWords n (now (plants .entry)) (now (logs .entry)) (now (tracker .entry)) ⌝ }
     ensures told { λ _. ⌜ now (told .exit) ≡ toldBy (tickAnswer n (now (plants .entry)) (now (logs .entry)) (now (tracker .entry))) (now (told .entry)) ⌝ }
 {
-    property_words::tick(n, plants, logs, tracker, told)
+    properties_words::tick(n, plants, logs, tracker, told)
 }
 
 // At the end of a run.
@@ -395,5 +395,5 @@ pub extern "C" fn bellmantle_properties_end(
     ensures answer { λ r. ⌜ r ≡ answerNumber (endAnswer n (now (plants .entry)) (now (logs .entry)) (now (values .entry)) (now (core .entry)) (now (tracker .entry))) ⌝ }
     ensures told { λ _. ⌜ now (told .exit) ≡ toldBy (endAnswer n (now (plants .entry)) (now (logs .entry)) (now (values .entry)) (now (core .entry)) (now (tracker .entry))) (now (told .entry)) ⌝ }
 {
-    property_words::end(n, plants, logs, values, core, tracker, told)
+    properties_words::end(n, plants, logs, values, core, tracker, told)
 }

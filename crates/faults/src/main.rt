@@ -1,6 +1,6 @@
 // The program `faults`: a fault script on standard input, what it says on standard output. What is
-// written is the crate report's to say; here it is only read and written.
-use report::Reported;
+// written is script_report's to say; here it is only read and written.
+use script_report::Reported;
 ghost use mathlib.Core.Path.{_≡_};
 ghost use lib.ListN.{length};
 ghost use Rattle.faults.specs.Input.{Moved, Filled};
@@ -61,8 +61,8 @@ fn main() {
         os::fail(b"faults: standard input");
         return;
     };
-    let mut out = report::room();
-    let Reported::Written(written) = report::report(&text[..length], &mut out) else {
+    let mut out = script_report::room();
+    let Reported::Written(written) = script_report::report(&text[..length], &mut out) else {
         return;
     };
     if !io::write_all(libc::STDOUT_FILENO, &out[..written]) {

@@ -6,7 +6,7 @@ use borrow.Author.Tests.{le-leb, lt-leb}
 use lib.ListN.{length, drop}
 use Rattle.nights.specs.Net.{fresh}
 use Rattle.nights.specs.Journal.{done, refused, doMark, step}
-use Rattle.fates.specs.Options.{perfectOptions}
+use Rattle.network_fates.specs.Options.{perfectOptions}
 use Rattle.journal.specs.Calls.{marked}
 
 module _ (w : List ℕ) where

@@ -15,11 +15,11 @@ use Rattle.nights.proofs.Kept.{fresh-formed}
 use Rattle.nights.proofs.Steps.{refused-stays, step-keeps}
 use Rattle.nights.proofs.Claim.{claim-of-the-rules}
 use Rattle.network.specs.declared.Network.{Network}
-use Rattle.fates.specs.Options.{perfectOptions}
+use Rattle.network_fates.specs.Options.{perfectOptions}
 use Rattle.network.specs.Forms.{plainOf, structOf, isFormed}
 use Rattle.network.specs.Calls.{settling, firstBy, firstNetwork}
 use Rattle.network.proofs.Maps.{plain-formed, plain-of-struct, struct-formed}
-use Rattle.fates.proofs.OptionForms.{refused-bad}
+use Rattle.network_fates.proofs.OptionForms.{refused-bad}
 use Rattle.journal.specs.Calls.{stateOf, stepOf, networkAfter}
 use Rattle.journal.specs.Night.{Held, Turn, Settled, Marked, Made, Night, endOf, callsOf, entriesOf, evening, Demand3}
 

@@ -9,10 +9,10 @@ use Rattle.nights.specs.Journal.{done, refused, rewind, held, used, header, goo
 use Rattle.network.specs.declared.Network.{Network}
 use Rattle.network.specs.Forms.{plainOf, isFormed}
 use Rattle.network.specs.Calls.{settling}
-use Rattle.fates.proofs.OptionForms.{Held}
+use Rattle.network_fates.proofs.OptionForms.{Held}
 use Rattle.network.proofs.Maps.{plain-formed, struct-of-plain}
-use Rattle.undo.specs.declared.Undone.{Undone}
-use Rattle.undo.specs.Undone.{undoneOf}
+use Rattle.journal_undo.specs.declared.Undone.{Undone}
+use Rattle.journal_undo.specs.Undone.{undoneOf}
 use Rattle.journal.specs.Calls.{stepOf}
 use Rattle.journal.proofs.Journaled.{Met, met-by, refused-by}
 

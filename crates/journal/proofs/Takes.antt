@@ -14,7 +14,7 @@ use Rattle.basis.specs.Basis.{laid}
 use Rattle.nights.specs.Journal.{Answer, done, refused, undoWords}
 use Rattle.nights.proofs.Order.{length-split}
 use Rattle.nights.proofs.Undo.{length-wordsOf}
-use Rattle.queue.proofs.Inserting.{length-recs}
+use Rattle.network_queue.proofs.Inserting.{length-recs}
 use Rattle.network.specs.declared.Network.{Network}
 use Rattle.network.specs.Answers.{Count, counting}
 use Rattle.network.specs.Forms.{plainOf, isFormed}

@@ -7,7 +7,7 @@ use Rattle.nights.specs.Net.{Options, send, take, choose, fresh}
 use Rattle.nights.specs.Draws.{fateOf}
 use Rattle.nights.specs.Journal.{Answer, refused, Call, plain, mark, State, Step, step}
 use Rattle.network.specs.declared.Network.{Network}
-use Rattle.fates.specs.Options.{perfectOptions}
+use Rattle.network_fates.specs.Options.{perfectOptions}
 use Rattle.network.specs.Forms.{plainOf, isFormed, letterOf}
 use Rattle.network.specs.Calls.{settling}
 

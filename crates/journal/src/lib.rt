@@ -1,26 +1,26 @@
 // The journal of a network's calls, in words that the host lends: word 0 says how many calls it holds, word 1 how many words are
 // used, and behind them stands a record for each call, enough to undo it. A journaled call is the plain call with its record; a
 // rewind goes back over the last k; a mark forgets them, so that no rewind goes past it. Any words may be lent.
-use fates::NetworkOptions;
-use fates::Refusal;
-use fates::Settled;
 use network::Counted;
 use network::Network;
 use network::Next;
 use network::SendAnswer;
 use network::Sent;
 use network::Taken;
+use network_fates::NetworkOptions;
+use network_fates::Refusal;
+use network_fates::Settled;
 ghost use mathlib.Core.Path.{_≡_};
 ghost use lib.ListN.{length};
 ghost use Rattle.nights.specs.Record.{wordsOf};
 ghost use Rattle.nights.specs.Net.{keep, isDue};
 ghost use Rattle.nights.specs.Draws.{decided};
 ghost use Rattle.nights.specs.Journal.{mark, rewind, done, refused};
-ghost use Rattle.fates.specs.Answers.{number, settledOf};
+ghost use Rattle.network_fates.specs.Answers.{number, settledOf};
 ghost use Rattle.network.specs.Answers.{countedOf, sentOf, counting, sending};
 ghost use Rattle.network.specs.Forms.{plainOf};
 ghost use Rattle.network.specs.Calls.{written};
-ghost use Rattle.fates.specs.Options.{plainOptions};
+ghost use Rattle.network_fates.specs.Options.{plainOptions};
 ghost use Rattle.journal.specs.Calls.{sends, takes, chooses, answerOf, wordsAfter, networkAfter, markAnswer, markWords};
 
 // The words of a take's own output, beside which its record's sort and length fit.
@@ -31,11 +31,11 @@ pub fn mark(journal: &mut [u64]) -> Settled
     ensures answer { λ r. ⌜ settledOf r ≡ markAnswer (now (journal .entry)) ⌝ }
     ensures journal { λ _. ⌜ now (journal .exit) ≡ markWords (now (journal .entry)) ⌝ }
 {
-    if journal.len() < ledger::HEADER {
+    if journal.len() < journal_ledger::HEADER {
         return Settled::Refused(Refusal::NoJournalRoom);
     }
     journal[0] = 0;
-    journal[1] = ledger::HEADER as u64;
+    journal[1] = journal_ledger::HEADER as u64;
     Settled::Done
 }
 
@@ -50,15 +50,15 @@ pub fn set_options(network: Network, options: NetworkOptions, journal: &mut [u64
     let Settled::Done = answer else {
         return next;
     };
-    let room = ledger::room_for(journal, ledger::OPTIONS_WORDS);
+    let room = journal_ledger::room_for(journal, journal_ledger::OPTIONS_WORDS);
     let Settled::Done = room else {
         return Next {
             network: network,
             answer: room,
         };
     };
-    let record = ledger::options_record(network.options);
-    ledger::append(journal, &record[..]);
+    let record = journal_ledger::options_record(network.options);
+    journal_ledger::append(journal, &record[..]);
     next
 }
 
@@ -90,16 +90,17 @@ pub fn send(
     else {
         return sent;
     };
-    let Settled::Refused(refusal) = ledger::room_for(journal, ledger::SEND_WORDS) else {
+    let Settled::Refused(refusal) = journal_ledger::room_for(journal, journal_ledger::SEND_WORDS)
+    else {
         let record = [
             network.seq,
             network.lost,
             network.replayed,
             network.delayed,
-            ledger::SEND,
-            ledger::SEND_WORDS as u64,
+            journal_ledger::SEND,
+            journal_ledger::SEND_WORDS as u64,
         ];
-        ledger::append(journal, &record[..]);
+        journal_ledger::append(journal, &record[..]);
         return sent;
     };
     Sent {
@@ -117,20 +118,23 @@ pub fn take_due(network: Network, now: u64, out: &mut [u64], journal: &mut [u64]
     ensures journal { λ _. ⌜ journal .exit .now ≡ wordsAfter (takes now (length (out .entry .now))) network (journal .entry .now) ⌝ }
 {
     let mut record = [0u64; TAKE_ROOM];
-    let taken = network.take_due(now, &mut record[..queue::WORDS]);
+    let taken = network.take_due(now, &mut record[..network_queue::WORDS]);
     let answer = taken.answer;
     let Counted::Records(t) = answer else {
         return taken;
     };
-    let size = t * queue::RECORD_SIZE;
+    let size = t * network_queue::RECORD_SIZE;
     if out.len() < size {
         return refused_take(network, Refusal::ShortOutput);
     }
-    let Settled::Refused(refusal) = ledger::room_for(journal, size + ledger::TAKE_WORDS) else {
-        ledger::write_at(out, 0, &record[..size]);
-        record[size] = ledger::TAKE;
-        record[size + 1] = (size + ledger::TAKE_WORDS) as u64;
-        ledger::append(journal, &record[..size + ledger::TAKE_WORDS]);
+    let Settled::Refused(refusal) = journal_ledger::room_for(
+        journal,
+        size + journal_ledger::TAKE_WORDS,
+    ) else {
+        journal_ledger::write_at(out, 0, &record[..size]);
+        record[size] = journal_ledger::TAKE;
+        record[size + 1] = (size + journal_ledger::TAKE_WORDS) as u64;
+        journal_ledger::append(journal, &record[..size + journal_ledger::TAKE_WORDS]);
         return taken;
     };
     refused_take(network, refusal)
@@ -154,7 +158,7 @@ pub fn rewind(network: Network, k: u64, journal: &mut [u64]) -> Next
     let Counted::Records(_) = network.pending() else {
         return refused(network, Refusal::IllFormed);
     };
-    if !ledger::header_good(journal) {
+    if !journal_ledger::header_good(journal) {
         return refused(network, Refusal::BadJournal);
     }
     let held = journal[0];
@@ -162,7 +166,7 @@ pub fn rewind(network: Network, k: u64, journal: &mut [u64]) -> Next
         return refused(network, Refusal::TooFarBack);
     }
     let end = journal[1] as usize;
-    let before = undo::undo_all(network, k, journal, end);
+    let before = journal_undo::undo_all(network, k, journal, end);
     if !before.fits {
         return refused(network, Refusal::BadJournal);
     }

@@ -11,8 +11,8 @@
 //           put into the journal  6 place, 7 value: no call of ours, but a word of the journal that is set
 //           rewind                6 how many calls
 //   last  the hash expected of the journal's words
-use fates::NetworkOptions;
 use network::Network;
+use network_fates::NetworkOptions;
 use network_replay::Change;
 use network_replay::Done;
 ghost use Prim.Native.Nat.{_+_, _≤_};
@@ -129,11 +129,11 @@ fn done_by(network: Network, case: [u64; 22], words: &mut [u64]) -> Done {
     let number = case[0];
     if number == 7 {
         let next = network_replay::put(network, case[6] as usize, case[7]);
-        return network_replay::settled(next, fates::Settled::Done);
+        return network_replay::settled(next, network_fates::Settled::Done);
     }
     if number == 8 {
         put_into(words, case[6] as usize, case[7]);
-        return network_replay::settled(network, fates::Settled::Done);
+        return network_replay::settled(network, network_fates::Settled::Done);
     }
     call(network, case, words)
 }

@@ -1,12 +1,12 @@
 // The journal over lent words: a network's head and records as in `network_words`, and the journal's own words. A call answers 0, or
 // the number of its refusal; then no lent word is changed, those lent for the answer included. The network is read into a value and
 // written back, since a journaled call can still be refused once its network is known.
-use fates::NetworkOptions;
-use fates::Settled;
 use network::Counted;
 use network::Head;
 use network::Network;
 use network::SendAnswer;
+use network_fates::NetworkOptions;
+use network_fates::Settled;
 ghost use mathlib.Core.Path.{_≡_};
 ghost use mathlib.Core.Bool.{true};
 ghost use mathlib.Core.List.{[], _∷_};
@@ -17,9 +17,9 @@ ghost use Rattle.nights.specs.Record.{wordsOf};
 ghost use Rattle.nights.specs.Net.{keep, isDue};
 ghost use Rattle.nights.specs.Draws.{decided};
 ghost use Rattle.nights.specs.Journal.{rewind};
-ghost use Rattle.fates.specs.Answers.{settledOf};
+ghost use Rattle.network_fates.specs.Answers.{settledOf};
 ghost use Rattle.network.specs.Forms.{plainOf, isFormed, headOf, joined};
-ghost use Rattle.fates.specs.Options.{structOptions};
+ghost use Rattle.network_fates.specs.Options.{structOptions};
 ghost use Rattle.network.specs.Calls.{written};
 ghost use Rattle.network_words.specs.Layout.{optionsFrom, networkIn, headWords};
 ghost use Rattle.network_words.specs.Calls.{numberOf, onDone, sendTold};

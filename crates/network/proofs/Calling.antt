@@ -12,12 +12,12 @@ use Rattle.nights.specs.Net.{capacity, sentLimit, lastKind, lastSort, Fate, ref
 use Rattle.nights.specs.Record.{recs}
 use Rattle.nights.specs.Draws.{Decided, fateOf}
 use Rattle.nights.specs.Journal.{Answer, done, refused, verdict, tests}
-use Rattle.queue.proofs.Inserting.{length-recs}
+use Rattle.network_queue.proofs.Inserting.{length-recs}
 use Rattle.network.specs.declared.Network.{Network}
 use Rattle.network.specs.Answers.{counting, sending, fateAnswer}
 use Rattle.network.specs.Forms.{plainOf, structOf, isFormed}
 use Rattle.network.specs.Calls.{settling, callAnswer, callNetwork, formAnswer, listAnswer, written}
-use Rattle.fates.proofs.Failing.{first, second}
+use Rattle.network_fates.proofs.Failing.{first, second}
 
 module _ (s : Network) where
   -- ---- counting and listing

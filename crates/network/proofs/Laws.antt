@@ -22,8 +22,8 @@ use Rattle.network.specs.declared.Counted.{Counted}
 use Rattle.network.specs.declared.Counted.the-variants.{Records, Refused as Uncounted}
 use Rattle.network.specs.declared.SendAnswer.{SendAnswer}
 use Rattle.network.specs.declared.SendAnswer.the-variants.{Accepted, Refused as Unsent}
-use Rattle.fates.specs.Answers.{number}
-use Rattle.fates.proofs.Numbers.{numbered-once}
+use Rattle.network_fates.specs.Answers.{number}
+use Rattle.network_fates.proofs.Numbers.{numbered-once}
 use Rattle.network.specs.Answers.{Count, countedOf, Sending, sentOf}
 use Rattle.network.specs.Forms.{plainOf, isFormed}
 use Rattle.network.specs.Calls.{callAnswer, callNetwork}

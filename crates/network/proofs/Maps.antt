@@ -16,17 +16,17 @@ use Rattle.nights.proofs.Order.{Ordered, length-split, length-insertAll}
 use Rattle.nights.proofs.Good.{length-copies}
 use Rattle.basis.proofs.Laws.{both}
 use Rattle.nights.proofs.Kept.{Counts, counted, good, options-good}
-use Rattle.queue.specs.Form.{zeros}
-use Rattle.queue.specs.Packed.{packed}
-use Rattle.queue.specs.Places.{dueCount, leftWords, goneWords, insertedAll}
-use Rattle.queue.proofs.Inserting.{length-recs}
-use Rattle.queue.proofs.Fronts.{front-is, back-is}
-use Rattle.queue.proofs.Packing.{unpacked, repacked, packed-zeros, packed-insertAll, packed-left, packed-gone}
-use Rattle.fates.specs.declared.NetworkOptions.{NetworkOptions}
+use Rattle.network_queue.specs.Form.{zeros}
+use Rattle.network_queue.specs.Packed.{packed}
+use Rattle.network_queue.specs.Places.{dueCount, leftWords, goneWords, insertedAll}
+use Rattle.network_queue.proofs.Inserting.{length-recs}
+use Rattle.network_queue.proofs.Fronts.{front-is, back-is}
+use Rattle.network_queue.proofs.Packing.{unpacked, repacked, packed-zeros, packed-insertAll, packed-left, packed-gone}
+use Rattle.network_fates.specs.declared.NetworkOptions.{NetworkOptions}
 use Rattle.network.specs.declared.Network.{Network}
-use Rattle.fates.specs.Options.{plainOptions}
+use Rattle.network_fates.specs.Options.{plainOptions}
 use Rattle.network.specs.Forms.{plainOf, structOf, isFormed}
-use Rattle.fates.proofs.OptionForms.{Held, options-back}
+use Rattle.network_fates.proofs.OptionForms.{Held, options-back}
 
 -- ---- a well-formed struct
 

@@ -6,12 +6,12 @@ use lib.Dec.{leb}
 use lib.ListN.{drop}
 use Rattle.nights.specs.Record.{recs}
 use Rattle.nights.specs.Net.{capacity, every, goodRecord, rising, goodOptions, goodCounts, wellFormed}
-use Rattle.queue.specs.Form.{zeros}
+use Rattle.network_queue.specs.Form.{zeros}
 use Rattle.basis.proofs.Laws.{both}
-use Rattle.queue.proofs.Inserting.{length-recs}
+use Rattle.network_queue.proofs.Inserting.{length-recs}
 use Rattle.network.specs.declared.Network.{Network}
-use Rattle.fates.specs.Options.{plainOptions}
-use Rattle.mail.specs.Letters.{recordsFormed}
+use Rattle.network_fates.specs.Options.{plainOptions}
+use Rattle.network_mail.specs.Letters.{recordsFormed}
 use Rattle.network.specs.Forms.{isFormed}
 
 shuffle : (o e r k l z : Bool) → (k ≡ true → l ≡ true) → (o && (e && (r && k))) && (l && z) ≡ o && (k && (e && (r && z)))

@@ -4,7 +4,7 @@ use Rattle.basis.specs.Basis.{bit}
 use Rattle.nights.specs.Net.{Fate, refuse, lose, once, twice, lostBy, replayedBy}
 use Rattle.nights.specs.Draws.{Decided}
 use Rattle.nights.specs.Journal.{Answer, done, refused}
-use Rattle.fates.specs.Answers.{number}
+use Rattle.network_fates.specs.Answers.{number}
 use Rattle.network.specs.declared.Counted.{Counted}
 use Rattle.network.specs.declared.Counted.the-variants.{Records, Refused as Uncounted}
 use Rattle.network.specs.declared.SendAnswer.{SendAnswer}

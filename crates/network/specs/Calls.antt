@@ -9,7 +9,7 @@ use Rattle.nights.specs.Net.{Options, Network as Plain, Plain as Call, fresh, e
 use Rattle.nights.specs.Draws.{fateOf}
 use Rattle.nights.specs.Journal.{Answer, done, refused, Test, verdict, tests, optionTests}
 use Rattle.network.specs.declared.Network.{Network}
-use Rattle.fates.specs.Options.{perfectOptions}
+use Rattle.network_fates.specs.Options.{perfectOptions}
 use Rattle.network.specs.Forms.{plainOf, structOf, isFormed}
 
 -- the network after a call: the struct of what follows, or the very one that came

@@ -7,11 +7,11 @@ use lib.ListN.{length, drop}
 use lib.Dec.{leb}
 use Rattle.nights.specs.Record.{recordSize, recs}
 use Rattle.nights.specs.Net.{capacity, Network as Plain, Letter, wellFormed}
-use Rattle.queue.specs.Form.{zeros}
-use Rattle.queue.specs.Packed.{packed}
+use Rattle.network_queue.specs.Form.{zeros}
+use Rattle.network_queue.specs.Packed.{packed}
 use Rattle.network.specs.declared.Head.{Head}
 use Rattle.network.specs.declared.Network.{Network}
-use Rattle.fates.specs.Options.{plainOptions, structOptions}
+use Rattle.network_fates.specs.Options.{plainOptions, structOptions}
 
 abbrev pub plainOf : Network → Plain
 plainOf s =

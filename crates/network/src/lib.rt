@@ -1,10 +1,10 @@
 // Simulated network with fault injection. The host hands it what is to be sent, with the draws and delays that decide the message's
 // fate, and every tick takes what is due. The network is a value: each call hands back the network that follows, and a call that is
 // refused hands back the one that it was given.
-use fates::Decision;
-use fates::NetworkOptions;
-use fates::Refusal;
-use fates::Settled;
+use network_fates::Decision;
+use network_fates::NetworkOptions;
+use network_fates::Refusal;
+use network_fates::Settled;
 ghost use mathlib.Core.Path.{_≡_};
 ghost use mathlib.Core.Bool.{true};
 ghost use mathlib.Core.List.{[]};
@@ -13,8 +13,8 @@ ghost use Rattle.nights.specs.Record.{wordsOf};
 ghost use Rattle.nights.specs.Net.{keep, isDue, goodOptions, fresh, send, take, choose};
 ghost use Rattle.nights.specs.Draws.{decided};
 ghost use Rattle.nights.specs.Journal.{verdict, optionTests};
-ghost use Rattle.fates.specs.Options.{plainOptions};
-ghost use Rattle.fates.specs.Answers.{settledOf, decisionOf};
+ghost use Rattle.network_fates.specs.Options.{plainOptions};
+ghost use Rattle.network_fates.specs.Answers.{settledOf, decisionOf};
 ghost use Rattle.network.specs.Answers.{countedOf, sentOf, counting, sending, fateAnswer};
 ghost use Rattle.network.specs.Forms.{plainOf, structOf, headOf, joined, letterOf, isFormed};
 ghost use Rattle.network.specs.Calls.{firstNetwork, callAnswer, callNetwork, formAnswer, listAnswer, written};
@@ -83,7 +83,7 @@ pub struct HeadSent {
 pub struct Network {
     pub options: NetworkOptions,
     // Messages in flight, in the order of (due tick, number): eight words each, and zeros behind them.
-    pub words: [u64; queue::WORDS],
+    pub words: [u64; network_queue::WORDS],
     // How many they are.
     pub pending: usize,
     // The number of the last copy queued.
@@ -99,7 +99,7 @@ pub struct Network {
 // ---- Well-formedness
 
 // Whether a network is well formed: its words lent, the rest of it by value.
-pub fn formed(w: &[u64; queue::WORDS], head: Head) -> bool
+pub fn formed(w: &[u64; network_queue::WORDS], head: Head) -> bool
     requires { ⌜ length (now w) ≡ 1024 ⌝ }
     ensures { λ b. ⌜ b ≡ isFormed (joined head (now (w .entry))) ⌝ }
 {
@@ -107,7 +107,7 @@ pub fn formed(w: &[u64; queue::WORDS], head: Head) -> bool
     let Settled::Done = options.validate() else {
         return false;
     };
-    if !mail::counts_good(
+    if !network_mail::counts_good(
         head.pending,
         head.seq,
         head.sent,
@@ -118,7 +118,7 @@ pub fn formed(w: &[u64; queue::WORDS], head: Head) -> bool
     ) {
         return false;
     }
-    mail::records_good(w, head.pending, head.seq)
+    network_mail::records_good(w, head.pending, head.seq)
 }
 
 // ---- The calls on lent records
@@ -164,7 +164,7 @@ fn told_by(decision: Decision) -> SendAnswer
 
 // A send on a well-formed network.
 pub fn send_on(
-    w: &mut [u64; queue::WORDS],
+    w: &mut [u64; network_queue::WORDS],
     head: Head,
     now: u64,
     sort: u64,
@@ -179,13 +179,13 @@ pub fn send_on(
     ensures network { λ t. ⌜ joined (t .head) (w .exit .now) ≡ callNetwork (send (letterOf now sort origin to kind handle) (draws .entry .now) (extras .entry .now)) (joined head (w .entry .now)) ⌝ }
     ensures answer { λ t. ⌜ sentOf (t .answer) ≡ sending (callAnswer (send (letterOf now sort origin to kind handle) (draws .entry .now) (extras .entry .now)) (joined head (w .entry .now))) (decided (plainOptions (head .options)) now kind (draws .entry .now) (extras .entry .now)) ⌝ }
 {
-    if queue::LAST_KIND < kind {
+    if network_queue::LAST_KIND < kind {
         return HeadSent {
             head: head,
             answer: SendAnswer::Refused(Refusal::BadKindOrSort),
         };
     }
-    if queue::LAST_SORT < sort {
+    if network_queue::LAST_SORT < sort {
         return HeadSent {
             head: head,
             answer: SendAnswer::Refused(Refusal::BadKindOrSort),
@@ -197,7 +197,7 @@ pub fn send_on(
             answer: SendAnswer::Refused(Refusal::SentLimit),
         };
     }
-    let decision = fates::decide(head.options, now, kind, draws, extras);
+    let decision = network_fates::decide(head.options, now, kind, draws, extras);
     let told = told_by(decision);
     let SendAnswer::Accepted {
         lost: _,
@@ -212,14 +212,14 @@ pub fn send_on(
         };
     };
     let n = head.pending;
-    let copies = fates::copies_by(decision);
-    if queue::CAPACITY < n + copies {
+    let copies = network_fates::copies_by(decision);
+    if network_queue::CAPACITY < n + copies {
         return HeadSent {
             head: head,
             answer: SendAnswer::Refused(Refusal::Full),
         };
     }
-    let letter = mail::Letter {
+    let letter = network_mail::Letter {
         now: now,
         sort: sort,
         origin: origin,
@@ -228,14 +228,14 @@ pub fn send_on(
         handle: handle,
     };
     let seq = head.seq;
-    mail::queue_copies(w, n, seq, letter, decision);
+    network_mail::queue_copies(w, n, seq, letter, decision);
     let mut next = head;
     next.pending = n + copies;
     next.seq = seq + copies as u64;
     next.sent = next.sent + 1;
-    next.lost = next.lost + fates::lost_by(decision);
-    next.replayed = next.replayed + fates::replayed_by(decision);
-    next.delayed = next.delayed + fates::delayed_by(decision);
+    next.lost = next.lost + network_fates::lost_by(decision);
+    next.replayed = next.replayed + network_fates::replayed_by(decision);
+    next.delayed = next.delayed + network_fates::delayed_by(decision);
     HeadSent {
         head: next,
         answer: told,
@@ -244,7 +244,7 @@ pub fn send_on(
 
 // A send.
 pub fn send_in(
-    w: &mut [u64; queue::WORDS],
+    w: &mut [u64; network_queue::WORDS],
     head: Head,
     now: u64,
     sort: u64,
@@ -269,21 +269,26 @@ pub fn send_in(
 }
 
 // A take on a well-formed network.
-pub fn take_on(w: &mut [u64; queue::WORDS], head: Head, now: u64, out: &mut [u64]) -> HeadTaken
+pub fn take_on(
+    w: &mut [u64; network_queue::WORDS],
+    head: Head,
+    now: u64,
+    out: &mut [u64],
+) -> HeadTaken
     requires { ⌜ (length (w .now) ≡ 1024) × (isFormed (joined head (w .now)) ≡ true) ⌝ }
     ensures network { λ t. ⌜ joined (t .head) (w .exit .now) ≡ callNetwork (take now (length (out .entry .now))) (joined head (w .entry .now)) ⌝ }
     ensures answer { λ t. ⌜ countedOf (t .answer) ≡ counting (callAnswer (take now (length (out .entry .now))) (joined head (w .entry .now))) (length (keep (isDue now) (plainOf (joined head (w .entry .now)) .pending))) ⌝ }
     ensures out { λ _. ⌜ out .exit .now ≡ written (callAnswer (take now (length (out .entry .now))) (joined head (w .entry .now))) (wordsOf (keep (isDue now) (plainOf (joined head (w .entry .now)) .pending))) (out .entry .now) ⌝ }
 {
     let n = head.pending;
-    let k = queue::due_front(w, n, now);
-    if out.len() < k * queue::RECORD_SIZE {
+    let k = network_queue::due_front(w, n, now);
+    if out.len() < k * network_queue::RECORD_SIZE {
         return HeadTaken {
             head: head,
             answer: Counted::Refused(Refusal::ShortOutput),
         };
     }
-    queue::take_from(w, n, now, k, out);
+    network_queue::take_from(w, n, now, k, out);
     let mut next = head;
     next.pending = n - k;
     next.delivered = next.delivered + k as u64;
@@ -294,7 +299,12 @@ pub fn take_on(w: &mut [u64; queue::WORDS], head: Head, now: u64, out: &mut [u64
 }
 
 // A take.
-pub fn take_in(w: &mut [u64; queue::WORDS], head: Head, now: u64, out: &mut [u64]) -> HeadTaken
+pub fn take_in(
+    w: &mut [u64; network_queue::WORDS],
+    head: Head,
+    now: u64,
+    out: &mut [u64],
+) -> HeadTaken
     requires { ⌜ length (w .now) ≡ 1024 ⌝ }
     ensures network { λ t. ⌜ joined (t .head) (w .exit .now) ≡ callNetwork (take now (length (out .entry .now))) (joined head (w .entry .now)) ⌝ }
     ensures answer { λ t. ⌜ countedOf (t .answer) ≡ counting (callAnswer (take now (length (out .entry .now))) (joined head (w .entry .now))) (length (keep (isDue now) (plainOf (joined head (w .entry .now)) .pending))) ⌝ }
@@ -310,7 +320,7 @@ pub fn take_in(w: &mut [u64; queue::WORDS], head: Head, now: u64, out: &mut [u64
 }
 
 // A change of the options. The records stay.
-pub fn options_in(w: &[u64; queue::WORDS], head: Head, options: NetworkOptions) -> HeadNext
+pub fn options_in(w: &[u64; network_queue::WORDS], head: Head, options: NetworkOptions) -> HeadNext
     requires { ⌜ length (now w) ≡ 1024 ⌝ }
     ensures network { λ t. ⌜ joined (t .head) (now (w .entry)) ≡ callNetwork (choose (plainOptions options)) (joined head (now (w .entry))) ⌝ }
     ensures answer { λ t. ⌜ settledOf (t .answer) ≡ callAnswer (choose (plainOptions options)) (joined head (now (w .entry))) ⌝ }
@@ -336,7 +346,7 @@ pub fn options_in(w: &[u64; queue::WORDS], head: Head, options: NetworkOptions) 
 
 impl Head {
     // The network of this head and these records.
-    pub fn with(self, words: [u64; queue::WORDS]) -> Network
+    pub fn with(self, words: [u64; network_queue::WORDS]) -> Network
         ensures { λ r. ⌜ r ≡ joined self words ⌝ }
     {
         let options = self.options;
@@ -356,9 +366,9 @@ impl Head {
 
 impl Network {
     // Messages that can be in flight, and messages that can be sent.
-    pub const CAPACITY: usize = queue::CAPACITY;
+    pub const CAPACITY: usize = network_queue::CAPACITY;
 
-    pub const SENT_LIMIT: u64 = mail::SENT_LIMIT;
+    pub const SENT_LIMIT: u64 = network_mail::SENT_LIMIT;
 
     // The network without its records.
     pub fn head(self) -> Head
@@ -430,10 +440,10 @@ impl Network {
             return Counted::Refused(Refusal::IllFormed);
         }
         let n = self.pending;
-        if out.len() < n * queue::RECORD_SIZE {
+        if out.len() < n * network_queue::RECORD_SIZE {
             return Counted::Refused(Refusal::ShortOutput);
         }
-        queue::copy_out(&words, n * queue::RECORD_SIZE, out);
+        network_queue::copy_out(&words, n * network_queue::RECORD_SIZE, out);
         Counted::Records(n)
     }
 
@@ -497,7 +507,7 @@ fn empty(options: NetworkOptions) -> Network
 {
     Network {
         options: options,
-        words: [0u64; queue::WORDS],
+        words: [0u64; network_queue::WORDS],
         pending: 0,
         seq: 0,
         sent: 0,

@@ -18,12 +18,12 @@
 //   in flight         6 how many words of the output are lent
 //   put               6 place, 7 value: no call of ours, but a word of the network that is set
 // Bits that are no good probability stand for 2, in a network too.
-use fates::NetworkOptions;
-use fates::Refusal;
-use fates::Settled;
 use network::Counted;
 use network::Network;
 use network::SendAnswer;
+use network_fates::NetworkOptions;
+use network_fates::Refusal;
+use network_fates::Settled;
 ghost use Prim.Native.Nat.{_+_, _*_, _≤_, _<_};
 ghost use lib.ListN.{length};
 
@@ -298,7 +298,7 @@ fn call_in_flight(network: Network, room: usize) -> Done {
 // the options.
 pub fn put(network: Network, place: usize, value: u64) -> Network {
     let mut next = network;
-    if place < queue::WORDS {
+    if place < network_queue::WORDS {
         next.words[place] = value;
         return next;
     }
@@ -399,7 +399,7 @@ fn send_outcome(faults_clients: bool, case: [u64; 22]) -> usize {
     if case[2] == 2 {
         return REPLAYED;
     }
-    if case[10] == fates::REQUEST {
+    if case[10] == network_fates::REQUEST {
         if !faults_clients {
             return NOT_FAULTED;
         }
@@ -484,7 +484,12 @@ pub fn meet(counts: &mut [u64], change: Change, case: [u64; 22]) {
     tape::count(counts, outcome(change, case));
     let sent = case[0] == 3;
     tape::count_if_both(counts, sent, change.delays, DELAYED);
-    tape::count_if_both(counts, sent, change.pending == queue::CAPACITY, LEFT_FULL);
+    tape::count_if_both(
+        counts,
+        sent,
+        change.pending == network_queue::CAPACITY,
+        LEFT_FULL,
+    );
 }
 
 // ---- The list

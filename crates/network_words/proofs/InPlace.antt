@@ -14,13 +14,13 @@ use Rattle.nights.specs.Net.{Options, Plain as Call, choose, goodOptions, effec
 use Rattle.nights.specs.Journal.{done, refused, verdict, tests, optionTests}
 use Rattle.basis.proofs.Laws.{both}
 use Rattle.nights.proofs.Kept.{options-good}
-use Rattle.queue.proofs.Inserting.{length-recs}
+use Rattle.network_queue.proofs.Inserting.{length-recs}
 use Rattle.network.specs.declared.Head.{Head}
 use Rattle.network.specs.declared.Network.{Network}
-use Rattle.fates.specs.Options.{plainOptions, structOptions}
+use Rattle.network_fates.specs.Options.{plainOptions, structOptions}
 use Rattle.network.specs.Forms.{plainOf, isFormed, headOf, joined}
 use Rattle.network.specs.Calls.{callAnswer, callNetwork}
-use Rattle.fates.proofs.OptionForms.{good-done}
+use Rattle.network_fates.proofs.OptionForms.{good-done}
 use Rattle.network.proofs.Maps.{plain-formed}
 use Rattle.network.proofs.Calling.{call-well, stays, follows}
 use Rattle.network.proofs.Laws.{stays-formed}

@@ -8,12 +8,12 @@ use lib.ListN.{length, drop}
 use Rattle.basis.specs.Basis.{bit}
 use Rattle.nights.specs.Draws.{Decided}
 use Rattle.nights.specs.Journal.{Answer, done, refused}
-use Rattle.fates.specs.declared.Refusal.{Refusal}
+use Rattle.network_fates.specs.declared.Refusal.{Refusal}
 use Rattle.network.specs.declared.SendAnswer.{SendAnswer}
 use Rattle.network.specs.declared.SendAnswer.the-variants.{Accepted, Refused as Unsent}
 use Rattle.network.specs.declared.Counted.{Counted}
 use Rattle.network.specs.declared.Counted.the-variants.{Records, Refused as Uncounted}
-use Rattle.fates.specs.Answers.{number}
+use Rattle.network_fates.specs.Answers.{number}
 use Rattle.network.specs.Answers.{Sending, sentOf, sending, Count, countedOf, counting}
 use Rattle.network.specs.Calls.{written}
 use Rattle.network.proofs.Calling.{answer-of}

@@ -4,11 +4,11 @@
 // A network is two rows of words. Its head is 12: the bits of the loss and of the replay probability, minimum, mean, whether client
 // messages are faulted (0 or 1), pending, seq, sent, delivered, lost, replayed, delayed. Its records are 1,024: eight words for each
 // pending message, in the order of delivery, and zeros behind them.
-use fates::NetworkOptions;
-use fates::Refusal;
 use network::Counted;
 use network::Head;
 use network::SendAnswer;
+use network_fates::NetworkOptions;
+use network_fates::Refusal;
 ghost use mathlib.Core.Path.{_≡_};
 ghost use mathlib.Core.Bool.{true, false, not};
 ghost use mathlib.Core.List.{[], _∷_};
@@ -20,9 +20,9 @@ ghost use Rattle.basis.specs.Basis.{bit};
 ghost use Rattle.nights.specs.Net.{keep, isDue, goodOptions, send, take, choose};
 ghost use Rattle.nights.specs.Draws.{decided};
 ghost use Rattle.nights.specs.Journal.{verdict, optionTests};
-ghost use Rattle.fates.specs.Answers.{number};
+ghost use Rattle.network_fates.specs.Answers.{number};
 ghost use Rattle.network.specs.Forms.{plainOf, letterOf};
-ghost use Rattle.fates.specs.Options.{plainOptions};
+ghost use Rattle.network_fates.specs.Options.{plainOptions};
 ghost use Rattle.network.specs.Calls.{written};
 ghost use Rattle.network_words.specs.Layout.{headWords, loaded, optionsFrom, networkIn, unloaded};
 ghost use Rattle.network_words.specs.Calls.{numberOf, onDone, answerIn, headAfter, recordsAfter, sendTold, formIn, listIn};
@@ -215,7 +215,7 @@ fn put_options(head: &mut [u64; 12], loss: u64, replay: u64, min: u64, mean: u64
 fn clear(records: &mut [u64; 1024])
     ensures { λ _. ⌜ now (records .exit) ≡ replicate 1024 0 ⌝ }
 {
-    *records = [0u64; queue::WORDS];
+    *records = [0u64; network_queue::WORDS];
 }
 
 // A fresh network of these options; the flag is no for 0 and yes otherwise.
@@ -392,10 +392,10 @@ pub fn in_flight(
         return ILL_FORMED;
     }
     let n = head[PENDING] as usize;
-    if out.len() < n * queue::RECORD_SIZE {
+    if out.len() < n * network_queue::RECORD_SIZE {
         return SHORT_OUTPUT;
     }
-    queue::copy_out(records, n * queue::RECORD_SIZE, out);
+    network_queue::copy_out(records, n * network_queue::RECORD_SIZE, out);
     *told = [n as u64];
     0
 }

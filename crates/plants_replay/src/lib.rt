@@ -13,11 +13,11 @@
 //   verdict 25 sender (0 a plant, 1 a client), 26 its id, 27 the receiver
 //   core    25 whether the full core is asked, 26 how many flags, 27..43 the flags recovering, 43 how many
 //           picks, 44..68 the picks, 68..83 the expected core, 83..104 the expected state
-use liveness::Choice;
 use plants::Judged;
 use plants::Origin;
 use plants::Outcome;
 use plants::Plants;
+use plants_liveness::Choice;
 use script::fault::Fault;
 ghost use Prim.Native.Nat.{_+_, _*_, _≤_};
 ghost use lib.ListN.{length};
@@ -394,7 +394,7 @@ fn core_agrees(case: [u64; 104]) -> bool {
     let full = case[25] == 1;
     let lent = case;
     let words = &lent[..];
-    let chosen = liveness::choose_core(
+    let chosen = plants_liveness::choose_core(
         before,
         &words[27..27 + flags],
         &words[44..44 + picks],

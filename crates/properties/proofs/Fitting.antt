@@ -7,18 +7,18 @@ use mathlib.Core.Path.{_≡_, refl, ap, _∙_}
 use Prim.Native.Nat.{ℕ, suc, _-_, _<_}
 use lib.ListN.{length, getD, set, replicate, length-set, length-replicate, getD-replicate}
 use lib.Seq.{getD-set-same, getD-set-other}
-use Rattle.snapshots.specs.Cluster.{clusterIn}
-use Rattle.snapshots.specs.Fits.{trackerFits}
-use Rattle.snapshots.specs.Layout.{lastAt, trackerWords}
-use Rattle.snapshots.specs.Shape.{Tracked}
-use Rattle.snapshots.proofs.Known.{tracker-known, tracker-fits}
-use Rattle.verdicts.specs.Verdicts.{onPass}
-use Rattle.remembering.specs.Remembering.{remembered}
-use Rattle.remembering.proofs.After.{after-tracked}
+use Rattle.properties_snapshots.specs.Cluster.{clusterIn}
+use Rattle.properties_snapshots.specs.Fits.{trackerFits}
+use Rattle.properties_snapshots.specs.Layout.{lastAt, trackerWords}
+use Rattle.properties_snapshots.specs.Shape.{Tracked}
+use Rattle.properties_snapshots.proofs.Known.{tracker-known, tracker-fits}
+use Rattle.properties_verdicts.specs.Verdicts.{onPass}
+use Rattle.properties_remembering.specs.Remembering.{remembered}
+use Rattle.properties_remembering.proofs.After.{after-tracked}
 use Rattle.properties.specs.Calls.{freshAnswer, freshWords, rebootAnswer, rebootWords, tickAnswer, tickWords}
 use Rattle.properties.proofs.Passed.{tick-known}
-use Rattle.verdicts.specs.declared.Answer.{Answer}
-use Rattle.verdicts.specs.declared.Answer.the-variants.{Pass, Broken, Refused}
+use Rattle.properties_verdicts.specs.declared.Answer.{Answer}
+use Rattle.properties_verdicts.specs.declared.Answer.the-variants.{Pass, Broken, Refused}
 
 -- the words that only a pass changes
 either : (a : Answer) (after before : List ℕ) (P : List ℕ → Type 0) → (a ≡ Pass → P after) → P before → P (onPass a after before)

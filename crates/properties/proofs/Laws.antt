@@ -9,29 +9,29 @@ use mathlib.Core.Path.{_≡_, sym, _∙_}
 use Prim.Native.Nat.{ℕ, _-_, _≤_, _<_}
 use lib.IntN.{ℤ}
 use lib.ListN.{length, getD}
-use Rattle.snapshots.specs.Below.{countBelow}
-use Rattle.snapshots.specs.Cluster.{Cluster, noEntry, plant, entry, last, trackerIn, clusterIn}
-use Rattle.snapshots.specs.Layout.{logEntries, commitAt, lastAt, seenAt}
-use Rattle.snapshots.proofs.Below.{max-reaches}
-use Rattle.snapshots.proofs.Held.{commit-held, last-held, seen-held}
-use Rattle.snapshots.proofs.Same.{same-entries}
-use Rattle.verdicts.specs.Verdicts.{andThen, atEntry, overCommitted}
-use Rattle.verdicts.proofs.First.{then-pass, test-holds, first-pass}
-use Rattle.commits.specs.Commits.{commitNumbers}
-use Rattle.agreement.specs.Agreement.{canonicalEntry, agrees}
-use Rattle.duplicates.specs.Duplicates.{idOf}
+use Rattle.properties_snapshots.specs.Below.{countBelow}
+use Rattle.properties_snapshots.specs.Cluster.{Cluster, noEntry, plant, entry, last, trackerIn, clusterIn}
+use Rattle.properties_snapshots.specs.Layout.{logEntries, commitAt, lastAt, seenAt}
+use Rattle.properties_snapshots.proofs.Below.{max-reaches}
+use Rattle.properties_snapshots.proofs.Held.{commit-held, last-held, seen-held}
+use Rattle.properties_snapshots.proofs.Same.{same-entries}
+use Rattle.properties_verdicts.specs.Verdicts.{andThen, atEntry, overCommitted}
+use Rattle.properties_verdicts.proofs.First.{then-pass, test-holds, first-pass}
+use Rattle.properties_commits.specs.Commits.{commitNumbers}
+use Rattle.properties_agreement.specs.Agreement.{canonicalEntry, agrees}
+use Rattle.properties_duplicates.specs.Duplicates.{idOf}
 use Rattle.basis.specs.Basis.{quorum}
-use Rattle.durability.specs.Durability.{holdsCopy}
-use Rattle.durability.proofs.Quorums.{in-every-quorum}
-use Rattle.convergence.proofs.Exactly.{Alike, exactly}
-use Rattle.remembering.specs.Remembering.{lengthAfter, remembered}
-use Rattle.remembering.proofs.After.{after-length, after-canonical, after-new, after-old, nothing-written}
+use Rattle.properties_durability.specs.Durability.{holdsCopy}
+use Rattle.properties_durability.proofs.Quorums.{in-every-quorum}
+use Rattle.properties_convergence.proofs.Exactly.{Alike, exactly}
+use Rattle.properties_remembering.specs.Remembering.{lengthAfter, remembered}
+use Rattle.properties_remembering.proofs.After.{after-length, after-canonical, after-new, after-old, nothing-written}
 use Rattle.properties.specs.Calls.{tickRefusal, tickAnswer, tickWords, endRefusal, endAnswer}
 use Rattle.properties.specs.Ticks.{asked, overEntries, judgedEntries, judged}
 use Rattle.properties.proofs.Passed.{tick-known}
-use Rattle.verdicts.specs.declared.Answer.the-variants.{Pass}
-use Rattle.verdicts.specs.declared.Property.{Property}
-use Rattle.verdicts.specs.declared.Property.the-variants.{PrefixAgreement, NoDuplicates, Durability}
+use Rattle.properties_verdicts.specs.declared.Answer.the-variants.{Pass}
+use Rattle.properties_verdicts.specs.declared.Property.{Property}
+use Rattle.properties_verdicts.specs.declared.Property.the-variants.{PrefixAgreement, NoDuplicates, Durability}
 
 -- a property of entries that passes holds of each entry from last commit up
 pub entry-passed : (p : Property) (c : Cluster) → overEntries p c ≡ Pass

@@ -2,19 +2,19 @@
 use mathlib.Core.List.{List}
 use mathlib.Core.Path.{_≡_}
 use Prim.Native.Nat.{ℕ}
-use Rattle.snapshots.specs.Cluster.{clusterIn}
+use Rattle.properties_snapshots.specs.Cluster.{clusterIn}
 use Rattle.basis.specs.Basis.{plantCount}
-use Rattle.snapshots.specs.Fits.{snapshotFits, trackerFits}
-use Rattle.snapshots.specs.Shape.{Snapshot, Tracked, Forward}
-use Rattle.snapshots.proofs.Known.{snapshot-known, tracker-known}
-use Rattle.verdicts.specs.Verdicts.{andThen, unless}
-use Rattle.verdicts.proofs.First.{then-pass, unless-known}
-use Rattle.commits.specs.Commits.{commitNumbers}
-use Rattle.commits.proofs.Forwards.{forward-known}
+use Rattle.properties_snapshots.specs.Fits.{snapshotFits, trackerFits}
+use Rattle.properties_snapshots.specs.Shape.{Snapshot, Tracked, Forward}
+use Rattle.properties_snapshots.proofs.Known.{snapshot-known, tracker-known}
+use Rattle.properties_verdicts.specs.Verdicts.{andThen, unless}
+use Rattle.properties_verdicts.proofs.First.{then-pass, unless-known}
+use Rattle.properties_commits.specs.Commits.{commitNumbers}
+use Rattle.properties_commits.proofs.Forwards.{forward-known}
 use Rattle.properties.specs.Calls.{tickRefusal, tickAnswer}
 use Rattle.properties.specs.Ticks.{judgedEntries, judged}
-use Rattle.verdicts.specs.declared.Answer.the-variants.{Pass}
-use Rattle.verdicts.specs.declared.Refusal.the-variants.{PlantCount, BadSnapshot, BadTracker}
+use Rattle.properties_verdicts.specs.declared.Answer.the-variants.{Pass}
+use Rattle.properties_verdicts.specs.declared.Refusal.the-variants.{PlantCount, BadSnapshot, BadTracker}
 
 -- all of it, of a tick call that passes
 pub tick-known : (n : ℕ) (p l t : List ℕ) → tickAnswer n p l t ≡ Pass → Snapshot n p l × Tracked n t × Forward n p t

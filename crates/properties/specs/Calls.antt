@@ -6,17 +6,17 @@ use Prim.Native.Nat.{ℕ, _-_}
 use lib.Dec.{ltb, eqb}
 use lib.IntN.{ℤ}
 use lib.ListN.{length, set, replicate}
-use Rattle.snapshots.specs.Cluster.{clusterIn}
+use Rattle.properties_snapshots.specs.Cluster.{clusterIn}
 use Rattle.basis.specs.Basis.{plantCount}
-use Rattle.snapshots.specs.Fits.{snapshotFits, trackerFits}
-use Rattle.snapshots.specs.Layout.{lastAt, trackerWords}
-use Rattle.verdicts.specs.Verdicts.{andThen, unless, onPass}
-use Rattle.convergence.specs.Convergence.{converged}
-use Rattle.convergence.specs.Core.{coreFits}
-use Rattle.remembering.specs.Remembering.{remembered}
+use Rattle.properties_snapshots.specs.Fits.{snapshotFits, trackerFits}
+use Rattle.properties_snapshots.specs.Layout.{lastAt, trackerWords}
+use Rattle.properties_verdicts.specs.Verdicts.{andThen, unless, onPass}
+use Rattle.properties_convergence.specs.Convergence.{converged}
+use Rattle.properties_convergence.specs.Core.{coreFits}
+use Rattle.properties_remembering.specs.Remembering.{remembered}
 use Rattle.properties.specs.Ticks.{judged}
-use Rattle.verdicts.specs.declared.Answer.{Answer}
-use Rattle.verdicts.specs.declared.Refusal.the-variants.{PlantCount, NoSuchPlant, BadSnapshot, BadTracker}
+use Rattle.properties_verdicts.specs.declared.Answer.{Answer}
+use Rattle.properties_verdicts.specs.declared.Refusal.the-variants.{PlantCount, NoSuchPlant, BadSnapshot, BadTracker}
 
 -- a fresh tracker: n and zeros
 unfoldable pub freshAnswer : ℕ → ℕ → Answer

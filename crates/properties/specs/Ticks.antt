@@ -1,15 +1,15 @@
 -- The properties of a tick in their order: 1, 3, 4 and 6 (RULES, "Properties"). Assumes nothing.
 use mathlib.Core.Bool.{Bool, true}
 use Prim.Native.Nat.{ℕ}
-use Rattle.snapshots.specs.Cluster.{Cluster}
-use Rattle.verdicts.specs.Verdicts.{andThen, atEntry, overPlants, overCommitted}
-use Rattle.commits.specs.Commits.{commitNumbers}
-use Rattle.agreement.specs.Agreement.{agrees}
-use Rattle.duplicates.specs.Duplicates.{unseen}
-use Rattle.durability.specs.Durability.{durable}
-use Rattle.verdicts.specs.declared.Answer.{Answer}
-use Rattle.verdicts.specs.declared.Property.{Property}
-use Rattle.verdicts.specs.declared.Property.the-variants.{CommitNumber, PrefixAgreement, NoDuplicates, Durability, Convergence}
+use Rattle.properties_snapshots.specs.Cluster.{Cluster}
+use Rattle.properties_verdicts.specs.Verdicts.{andThen, atEntry, overPlants, overCommitted}
+use Rattle.properties_commits.specs.Commits.{commitNumbers}
+use Rattle.properties_agreement.specs.Agreement.{agrees}
+use Rattle.properties_duplicates.specs.Duplicates.{unseen}
+use Rattle.properties_durability.specs.Durability.{durable}
+use Rattle.properties_verdicts.specs.declared.Answer.{Answer}
+use Rattle.properties_verdicts.specs.declared.Property.{Property}
+use Rattle.properties_verdicts.specs.declared.Property.the-variants.{CommitNumber, PrefixAgreement, NoDuplicates, Durability, Convergence}
 
 -- what a property asks of an entry newly committed (1 and 7 ask nothing of one)
 abbrev pub asked : Property → Cluster → ℕ → ℕ → Bool

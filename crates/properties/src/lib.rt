@@ -5,18 +5,18 @@ ghost use mathlib.Core.List.{List};
 ghost use mathlib.Core.Path.{_≡_};
 ghost use Prim.Native.Nat.{ℕ, _<_};
 ghost use lib.ListN.{length, getD, replicate};
-ghost use Rattle.snapshots.specs.Cluster.{clusterIn};
-ghost use Rattle.snapshots.specs.Layout.{commitAt};
-ghost use Rattle.snapshots.specs.Shape.{Snapshot, Tracked, Forward};
-ghost use Rattle.durability.specs.Durability.{participants, neededCopies};
+ghost use Rattle.properties_snapshots.specs.Cluster.{clusterIn};
+ghost use Rattle.properties_snapshots.specs.Layout.{commitAt};
+ghost use Rattle.properties_snapshots.specs.Shape.{Snapshot, Tracked, Forward};
+ghost use Rattle.properties_durability.specs.Durability.{participants, neededCopies};
 ghost use Rattle.properties.specs.Calls.{freshAnswer, freshWords, rebootAnswer, rebootWords, tickAnswer, tickWords, endAnswer};
 ghost use Rattle.properties.specs.Ticks.{asked, overEntries, judgedEntries, judged};
-use snapshots::COMMIT;
-use snapshots::LASTS;
-use snapshots::PLANT;
-use verdicts::Answer;
-use verdicts::Property;
-use verdicts::Refusal;
+use properties_snapshots::COMMIT;
+use properties_snapshots::LASTS;
+use properties_snapshots::PLANT;
+use properties_verdicts::Answer;
+use properties_verdicts::Property;
+use properties_verdicts::Refusal;
 
 // A fresh tracker: n and zeros, in every word.
 pub fn fresh(n: usize, tracker: &mut [u64]) -> Answer
@@ -26,7 +26,7 @@ pub fn fresh(n: usize, tracker: &mut [u64]) -> Answer
     if !basis::plant_count(n) {
         return Answer::Refused(Refusal::PlantCount);
     }
-    if tracker.len() != snapshots::tracker_words(n) {
+    if tracker.len() != properties_snapshots::tracker_words(n) {
         return Answer::Refused(Refusal::BadTracker);
     }
     clear(tracker);
@@ -45,7 +45,7 @@ pub fn reboot(n: usize, id: usize, tracker: &mut [u64]) -> Answer
     if n <= id {
         return Answer::Refused(Refusal::NoSuchPlant);
     }
-    if !snapshots::tracker_fits(n, tracker) {
+    if !properties_snapshots::tracker_fits(n, tracker) {
         return Answer::Refused(Refusal::BadTracker);
     }
     tracker[LASTS + id] = 0;
@@ -63,7 +63,7 @@ pub fn tick(n: usize, plants: &[u64], logs: &[u64], tracker: &mut [u64]) -> Answ
 {
     let answer = tick_answer(n, plants, logs, tracker);
     if let Answer::Pass = answer {
-        remembering::remember(n, plants, logs, tracker);
+        properties_remembering::remember(n, plants, logs, tracker);
     }
     answer
 }
@@ -82,19 +82,19 @@ pub fn end(
     if !basis::plant_count(n) {
         return Answer::Refused(Refusal::PlantCount);
     }
-    if !snapshots::snapshot_fits(n, plants, logs) {
+    if !properties_snapshots::snapshot_fits(n, plants, logs) {
         return Answer::Refused(Refusal::BadSnapshot);
     }
     if values.len() != n {
         return Answer::Refused(Refusal::BadSnapshot);
     }
-    if !convergence::core_fits(n, core) {
+    if !properties_convergence::core_fits(n, core) {
         return Answer::Refused(Refusal::BadSnapshot);
     }
-    if !snapshots::tracker_fits(n, tracker) {
+    if !properties_snapshots::tracker_fits(n, tracker) {
         return Answer::Refused(Refusal::BadTracker);
     }
-    convergence::convergence(n, plants, logs, values, core, tracker)
+    properties_convergence::convergence(n, plants, logs, values, core, tracker)
 }
 
 // Every word is 0.
@@ -115,10 +115,10 @@ fn tick_answer(n: usize, plants: &[u64], logs: &[u64], tracker: &[u64]) -> Answe
     if !basis::plant_count(n) {
         return Answer::Refused(Refusal::PlantCount);
     }
-    if !snapshots::snapshot_fits(n, plants, logs) {
+    if !properties_snapshots::snapshot_fits(n, plants, logs) {
         return Answer::Refused(Refusal::BadSnapshot);
     }
-    if !snapshots::tracker_fits(n, tracker) {
+    if !properties_snapshots::tracker_fits(n, tracker) {
         return Answer::Refused(Refusal::BadTracker);
     }
     judge(n, plants, logs, tracker)
@@ -129,7 +129,7 @@ fn judge(n: usize, plants: &[u64], logs: &[u64], tracker: &[u64]) -> Answer
     requires { ⌜ Snapshot n (now plants) (now logs) × Tracked n (now tracker) ⌝ }
     ensures { λ a. ⌜ a ≡ judged (clusterIn n (now (plants .entry)) (now (logs .entry)) (now (tracker .entry))) ⌝ }
 {
-    let numbers = commits::commit_numbers(n, plants, tracker);
+    let numbers = properties_commits::commit_numbers(n, plants, tracker);
     let Answer::Pass = numbers else {
         return numbers;
     };
@@ -141,7 +141,7 @@ fn judge_entries(n: usize, plants: &[u64], logs: &[u64], tracker: &[u64]) -> Ans
     requires { ⌜ Snapshot n (now plants) (now logs) × Tracked n (now tracker) × Forward n (now plants) (now tracker) ⌝ }
     ensures { λ a. ⌜ a ≡ judgedEntries (clusterIn n (now (plants .entry)) (now (logs .entry)) (now (tracker .entry))) ⌝ }
 {
-    let needed = durability::needed_copies(n, plants);
+    let needed = properties_durability::needed_copies(n, plants);
     let agreement = entries(Property::PrefixAgreement, needed, n, plants, logs, tracker);
     let Answer::Pass = agreement else {
         return agreement;
@@ -170,8 +170,8 @@ fn entries(
     let mut r: usize = 0;
     let mut i: usize = 0;
     'plants: while r < n {
-        let commit = snapshots::number(plants, r * PLANT + COMMIT);
-        i = snapshots::number(tracker, LASTS + r);
+        let commit = properties_snapshots::number(plants, r * PLANT + COMMIT);
+        i = properties_snapshots::number(tracker, LASTS + r);
         'indexes: while i < commit {
             if !entry_holds(property, needed, n, plants, logs, tracker, r, i) {
                 break 'plants;
@@ -181,7 +181,7 @@ fn entries(
         r += 1;
     }
     if r < n {
-        return verdicts::broken(property, r, i, 1);
+        return properties_verdicts::broken(property, r, i, 1);
     }
     Answer::Pass
 }
@@ -204,9 +204,9 @@ fn entry_holds(
 {
     match property {
         Property::CommitNumber => true,
-        Property::PrefixAgreement => agreement::agrees(n, plants, logs, tracker, r, i),
-        Property::NoDuplicates => duplicates::unseen(n, plants, logs, tracker, r, i),
-        Property::Durability => needed <= durability::copies(n, plants, logs, r, i),
+        Property::PrefixAgreement => properties_agreement::agrees(n, plants, logs, tracker, r, i),
+        Property::NoDuplicates => properties_duplicates::unseen(n, plants, logs, tracker, r, i),
+        Property::Durability => needed <= properties_durability::copies(n, plants, logs, r, i),
         Property::Convergence => true,
     }
 }

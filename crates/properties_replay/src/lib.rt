@@ -8,7 +8,7 @@
 // kinds 6 to 9 are the calls tick, end, fresh and reboot: the id of a reboot, then the expected answer (0, or the
 // number of the property or of the refusal; plant, index, test), then the hash of all tracker words after the call.
 // What was met is counted, so that a list that misses an outcome is seen.
-use verdicts::Answer;
+use properties_verdicts::Answer;
 ghost use Prim.Native.Nat.{_+_, _≤_};
 ghost use lib.ListN.{length};
 
@@ -149,12 +149,12 @@ fn in_words(answer: Answer) -> Told {
             index,
             test,
         } => Told {
-            code: verdicts::property_number(property),
+            code: properties_verdicts::property_number(property),
             plant: plant as u64,
             index: index as u64,
             test,
         },
-        Answer::Refused(refusal) => outside(verdicts::refusal_number(refusal)),
+        Answer::Refused(refusal) => outside(properties_verdicts::refusal_number(refusal)),
     }
 }
 

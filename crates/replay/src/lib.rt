@@ -1,7 +1,7 @@
 // Replays a list of cases: texts with what `faults` is to write for each. A list is a row of blocks, each
 // the length of its text and of its expected output, four bytes each with the lowest first, then the
 // text and then the output. What was met is counted, so that a list that misses an outcome is seen.
-use report::Reported;
+use script_report::Reported;
 ghost use Prim.Native.Nat.{_+_, _≤_};
 ghost use lib.ListN.{length};
 
@@ -61,8 +61,8 @@ fn outcome(expected: &[u8]) -> usize {
 
 // Whether the report on a text is the one expected, bytes past it left as they came.
 pub fn agrees(text: &[u8], expected: &[u8]) -> bool {
-    let mut out = report::room();
-    let Reported::Written(written) = report::report(text, &mut out) else {
+    let mut out = script_report::room();
+    let Reported::Written(written) = script_report::report(text, &mut out) else {
         return false;
     };
     check::same(&out[..written], expected)

@@ -12,7 +12,7 @@ use borrow.Author.Tests.{le-leb, lt-leb, ltb-true}
 use lib.Dec.{leb, ltb, eqb}
 use lib.ListN.{length, take, drop, length-drop}
 use lib.Seq.{drop-drop, take-all}
-use Rattle.words.specs.Words.{until}
+use Rattle.script_words.specs.Words.{until}
 use Rattle.script.specs.Lines.{lineSays}
 use Rattle.script.specs.Scripts.{eventsOf, judged, judgedLine, said}
 use Rattle.script.specs.declared.line.Line.{Line}
@@ -21,8 +21,8 @@ use Rattle.script.specs.declared.line.Refusal.{Refusal}
 use Rattle.script.specs.declared.line.Refusal.the-variants.{NoRoom}
 use Rattle.script.specs.declared.Judged.the-variants.{Found, Stopped}
 use Rattle.script.specs.declared.Script.the-variants.{Events, Refused}
-use Rattle.words.proofs.Walk.{until-within}
-use Rattle.words.proofs.Cutting.{last-line, next-line}
+use Rattle.script_words.proofs.Walk.{until-within}
+use Rattle.script_words.proofs.Cutting.{last-line, next-line}
 
 -- what the lines from a place on say; behind the last line feed there is one line more, and then none
 unfoldable pub left : List ℕ → ℕ → List Line

@@ -11,8 +11,8 @@ use Rattle.numeral.specs.Digits.{isDigit, allDigits, valueOf}
 use Rattle.numeral.specs.Reading.{unsigned, isNumber, inDigits, numberOf}
 use Rattle.order.specs.Order.{wordsOf, inserted, sorted, Rising, Permuted, ofTick}
 use Rattle.order.proofs.Laws.{sorted-rising, sorted-permuted, sorted-stable, length-sorted}
-use Rattle.words.specs.Words.{isSpace, notSpace, until, cutAt, joined, linesOf, stripFront, keptBefore, stripEnd, strip, begins}
-use Rattle.words.specs.Words as words
+use Rattle.script_words.specs.Words.{isSpace, notSpace, until, cutAt, joined, linesOf, stripFront, keptBefore, stripEnd, strip, begins}
+use Rattle.script_words.specs.Words as words
 use Rattle.script.specs.Faults.{same, namedBy}
 use Rattle.script.specs.Lines.{ofWords, lineSays}
 use Rattle.script.specs.Scripts.{longest, strayFrom, strayLine, eventsOf, judged, said, answerOf, sortedEvents, wordsAfter}

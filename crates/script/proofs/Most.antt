@@ -12,7 +12,7 @@ use Rattle.numeral.specs.Reading.{numberOf, Says}
 use Rattle.numeral.specs.declared.Number.{Number}
 use Rattle.numeral.specs.declared.Number.the-variants.{Value, Bad}
 use Rattle.numeral.proofs.Laws.{sound}
-use Rattle.words.specs.Words.{isSpace, notSpace, until, cutAt, joined, linesOf, stripFront, keptBefore, stripEnd, strip, begins, wordsOf}
+use Rattle.script_words.specs.Words.{isSpace, notSpace, until, cutAt, joined, linesOf, stripFront, keptBefore, stripEnd, strip, begins, wordsOf}
 use Rattle.script.specs.Faults.{needsId, same, crash, restart, reboot, partition, heal, healAll, namedBy}
 use Rattle.script.specs.Lines.{withNumber, withWords, withName, withTick, ofWords, lineSays}
 use Rattle.script.specs.Scripts.{eventsIn, eventsOf, said}

@@ -10,7 +10,7 @@ use lib.ListN.{length, take, drop, length-drop, take-append-drop}
 use Rattle.basis.specs.Basis.{laid}
 use Rattle.order.specs.Order.{wordsOf}
 use Rattle.order.specs.Order as order
-use Rattle.words.proofs.Walk.{until-in}
+use Rattle.script_words.proofs.Walk.{until-in}
 use Rattle.script.specs.Lines.{lineSays}
 use Rattle.script.specs.Scripts.{eventsIn, eventsOf, judged, judgedLine, said}
 use Rattle.script.specs.declared.fault.Fault.{Fault}

@@ -14,7 +14,7 @@ use Rattle.script.specs.declared.fault.Fault.{Fault}
 use Rattle.script.specs.declared.fault.Named.the-variants.{Is, Unknown}
 use Rattle.script.specs.declared.line.Line.the-variants.{Blank, Event, Faulty}
 use Rattle.script.specs.declared.line.Refusal.the-variants.{OneWord, BadTick, UnknownFault, MissingId}
-use Rattle.words.proofs.Cutting.{led}
+use Rattle.script_words.proofs.Cutting.{led}
 
 -- ---- the id
 module _ (tick : ℕ) (fault : Fault) where

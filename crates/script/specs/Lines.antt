@@ -6,7 +6,7 @@ use Prim.Native.Nat.{ℕ}
 use Rattle.numeral.specs.Reading.{numberOf}
 use Rattle.numeral.specs.declared.Number.{Number}
 use Rattle.numeral.specs.declared.Number.the-variants.{Value, Bad}
-use Rattle.words.specs.Words.{cutAt, strip, wordsOf}
+use Rattle.script_words.specs.Words.{cutAt, strip, wordsOf}
 use Rattle.script.specs.Faults.{namedBy, needsId, withId}
 use Rattle.script.specs.declared.fault.Fault.{Fault}
 use Rattle.script.specs.declared.fault.Named.{Named}

@@ -6,7 +6,7 @@ use Prim.Native.Nat.{ℕ, suc, _+_, _*_, _/_}
 use lib.Dec.{ltb, eqb}
 use lib.ListN.{length, drop}
 use Rattle.order.specs.Order as order
-use Rattle.words.specs.Words.{linesOf}
+use Rattle.script_words.specs.Words.{linesOf}
 use Rattle.script.specs.Faults.{faultNumber, faultId}
 use Rattle.script.specs.Lines.{lineSays}
 use Rattle.script.specs.declared.line.Line.{Line}

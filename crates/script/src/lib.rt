@@ -132,7 +132,7 @@ fn read_lines(text: &[u8], held: &mut [u64], room: usize) -> Script
     let mut line: usize = 1;
     let mut at: usize = 0;
     while at <= text.len() {
-        let end = words::find(text, b'\n', at);
+        let end = script_words::find(text, b'\n', at);
         match read_line(&text[at..end], held, found, room) {
             Judged::Stopped(refusal) => return Script::Refused(refusal, line),
             Judged::Found(next) => found = next,

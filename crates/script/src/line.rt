@@ -4,7 +4,7 @@ use crate::fault::Fault;
 use crate::fault::Named;
 use numeral::Number;
 ghost use mathlib.Core.Path.{_≡_};
-ghost use Rattle.words.specs.Words.{wordsOf};
+ghost use Rattle.script_words.specs.Words.{wordsOf};
 ghost use Rattle.script.specs.Lines.{lineSays, ofWords, withFault, present};
 
 // Why a script is refused, in the order in which it is tested.
@@ -38,7 +38,7 @@ pub enum Line {
 pub fn parse_line(line: &[u8]) -> Line
     ensures { λ r. ⌜ r ≡ lineSays (now (line .entry)) ⌝ }
 {
-    let end = words::find(line, b'#', 0);
+    let end = script_words::find(line, b'#', 0);
     parse_words(&line[..end])
 }
 
@@ -46,7 +46,7 @@ pub fn parse_line(line: &[u8]) -> Line
 fn parse_words(line: &[u8]) -> Line
     ensures { λ r. ⌜ r ≡ ofWords (wordsOf (now (line .entry))) ⌝ }
 {
-    let found = words::first_words(line);
+    let found = script_words::first_words(line);
     let start = found.tick.start;
     let end = found.tick.end;
     let word = &line[start..end];

@@ -8,9 +8,9 @@ use Rattle.chance.specs.Draw.{byWord, genBool, genBoolInSend}
 use Rattle.basis.specs.Basis.{plantCount}
 use Rattle.plants.specs.State.{tested, noneSet, countsFit}
 use Rattle.plants.specs.State as State
-use Rattle.lineup.specs.Shuffle.{shuffledFrom, picksWithin}
-use Rattle.lineup.specs.Core.{picksInRange, idsFrom, those, lineUp, inserted, sorted, coreOf, flagsFit, healthyCount}
-use Rattle.liveness.specs.Choice.{member, inCore, risen, lentTested, choiceTested, chosen}
+use Rattle.plants_lineup.specs.Shuffle.{shuffledFrom, picksWithin}
+use Rattle.plants_lineup.specs.Core.{picksInRange, idsFrom, those, lineUp, inserted, sorted, coreOf, flagsFit, healthyCount}
+use Rattle.plants_liveness.specs.Choice.{member, inCore, risen, lentTested, choiceTested, chosen}
 use Rattle.nights.specs.Record.{wordsOf, recs}
 use Rattle.nights.specs.Net.{keep, every, earlier, insertBy, insertAll, dues, lostBy, replayedBy, delayedBy, copies, effect, goodOptions, goodRecord, ahead, rising, goodCounts, wellFormed}
 use Rattle.nights.specs.Draws.{isFaulted, extrasFor, extraAt, dueAt, isTick, isLate, alone, both, afterReplay, afterLoss, decided}

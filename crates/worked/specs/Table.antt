@@ -13,8 +13,8 @@ use Rattle.chance.specs.Probability.{thresholdOf}
 use Rattle.chance.specs.Draw.{genBoolInSend}
 use Rattle.chance.specs.declared.Draw.the-variants.{No}
 use Rattle.plants.specs.State.{fresh}
-use Rattle.liveness.specs.Choice.{chosen}
-use Rattle.durability.specs.Durability.{neededCopies}
+use Rattle.plants_liveness.specs.Choice.{chosen}
+use Rattle.properties_durability.specs.Durability.{neededCopies}
 use Rattle.nights.specs.Record.{Record}
 use Rattle.nights.specs.Net.{Options, Letter, keep, isDue}
 use Rattle.nights.specs.Net

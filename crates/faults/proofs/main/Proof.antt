@@ -3,7 +3,7 @@ use mathlib.Core.Path.{sym, subst}
 use Prim.Native.Nat.{_≤_}
 use lib.ListN.{length}
 use lib.Seq.{length-take-le}
-use Rattle.report.proofs.Within.{handed}
+use Rattle.script_report.proofs.Within.{handed}
 use Rattle.faults.specs.Input.{Filled}
 use Rattle.faults.specs.declared.Input.{Input}
 use borrow.Author.Needs.{needs}

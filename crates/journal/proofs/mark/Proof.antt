@@ -1,5 +1,5 @@
 -- `journal::mark` meets its contract. Assumes nothing.
-use Rattle.ledger.proofs.Words.{headed}
+use Rattle.journal_ledger.proofs.Words.{headed}
 use Rattle.journal.proofs.Marks.{mark-short, mark-long}
 use mathlib.Core.Path.{sym, ap, _∙_}
 use Rattle.nights.specs.Journal.{Step}

@@ -10,9 +10,9 @@ use Rattle.nights.specs.Journal.{goodHeader}
 use Rattle.network.specs.declared.Network.{Network}
 use Rattle.network.specs.Answers.{countedOf}
 use Rattle.network.specs.Forms.{isFormed}
-use Rattle.fates.proofs.OptionForms.{Held}
-use Rattle.undo.proofs.Telling.{ill-told, well-told}
-use Rattle.ledger.proofs.Words.{Header, good-header, headed}
+use Rattle.network_fates.proofs.OptionForms.{Held}
+use Rattle.journal_undo.proofs.Telling.{ill-told, well-told}
+use Rattle.journal_ledger.proofs.Words.{Header, good-header, headed}
 use Rattle.journal.proofs.Rewinds.{ill, bad-header, too-far, no-fit, went-back}
 use borrow.Author.Needs.{needs}
 use Rattle.journal.proofs.rewind.Statement.{statement}

@@ -7,12 +7,12 @@ use Rattle.nights.specs.Draws.{Decided, decided}
 use Rattle.nights.specs.Journal.{Answer, done, undoWords, verdict, journalTests}
 use Rattle.network.specs.declared.Network.{Network}
 use Rattle.network.specs.declared.SendAnswer.{SendAnswer}
-use Rattle.fates.specs.Answers.{settledOf}
+use Rattle.network_fates.specs.Answers.{settledOf}
 use Rattle.network.specs.Answers.{Sending, sentOf, sending}
 use Rattle.network.specs.Forms.{plainOf, letterOf}
 use Rattle.network.specs.Calls.{callAnswer}
 use Rattle.network.proofs.Calling.{answer-of}
-use Rattle.ledger.proofs.Words.{roomy}
+use Rattle.journal_ledger.proofs.Words.{roomy}
 use Rattle.journal.proofs.Journaled.{refused-plain, refused-then, accepted}
 use borrow.Author.Needs.{needs}
 use Rattle.journal.proofs.send.Statement.{statement}

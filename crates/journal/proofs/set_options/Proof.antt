@@ -7,13 +7,13 @@ use Rattle.nights.specs.Net.{Plain as Call, choose}
 use Rattle.nights.specs.Journal.{done, undoWords, verdict, journalTests}
 use Rattle.nights.proofs.Kept.{options-good}
 use Rattle.network.specs.declared.Network.{Network}
-use Rattle.fates.specs.Options.{plainOptions}
-use Rattle.fates.specs.Answers.{settledOf}
+use Rattle.network_fates.specs.Options.{plainOptions}
+use Rattle.network_fates.specs.Answers.{settledOf}
 use Rattle.network.specs.Forms.{plainOf}
 use Rattle.network.specs.Calls.{callAnswer}
 use Rattle.network.proofs.Maps.{plain-formed}
 use Rattle.network.proofs.Laws.{was-formed}
-use Rattle.ledger.proofs.Words.{roomy}
+use Rattle.journal_ledger.proofs.Words.{roomy}
 use Rattle.journal.proofs.Journaled.{refused-plain, refused-then, accepted}
 use borrow.Author.Needs.{needs}
 use Rattle.journal.proofs.set_options.Statement.{statement}

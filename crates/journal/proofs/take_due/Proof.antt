@@ -11,12 +11,12 @@ use Rattle.nights.specs.Net.{Plain as Call, take as takes, keep, isDue}
 use Rattle.basis.specs.Basis.{laid}
 use Rattle.nights.specs.Journal.{Answer, done, logged, undoWords, verdict, journalTests}
 use Rattle.network.specs.declared.Network.{Network}
-use Rattle.fates.specs.Answers.{settledOf}
+use Rattle.network_fates.specs.Answers.{settledOf}
 use Rattle.network.specs.Answers.{countedOf, counting}
 use Rattle.network.specs.Forms.{plainOf}
 use Rattle.network.specs.Calls.{callAnswer, written}
 use Rattle.network.proofs.Calling.{stays}
-use Rattle.ledger.proofs.Words.{roomy}
+use Rattle.journal_ledger.proofs.Words.{roomy}
 use Rattle.journal.proofs.Journaled.{refused-first, refused-then, accepted}
 use Rattle.journal.proofs.Takes.{over-front, told-done, told-refused, own-refused, own-small, lent-short, lent-well, same-network, record-size, length-last, taken-front, the-record}
 use borrow.Author.Needs.{needs}

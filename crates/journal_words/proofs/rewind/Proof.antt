@@ -5,7 +5,7 @@ use borrow.Author.Tests.{not-true, not-false}
 use Rattle.nights.specs.Journal.{rewind}
 use Rattle.network.specs.declared.Head.{Head}
 use Rattle.network.specs.declared.Network.{Network}
-use Rattle.fates.specs.Answers.{settledOf}
+use Rattle.network_fates.specs.Answers.{settledOf}
 use Rattle.network.specs.Forms.{joined}
 use Rattle.journal.specs.Calls.{answerOf}
 use Rattle.journal.proofs.Journaled.{Met}

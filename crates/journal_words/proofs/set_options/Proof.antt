@@ -11,11 +11,11 @@ use Rattle.nights.specs.Journal.{Answer, refused, verdict, optionTests}
 use Rattle.basis.proofs.Laws.{both}
 use Rattle.network.specs.declared.Head.{Head}
 use Rattle.network.specs.declared.Network.{Network}
-use Rattle.fates.specs.Answers.{settledOf}
-use Rattle.fates.specs.Options.{plainOptions}
+use Rattle.network_fates.specs.Answers.{settledOf}
+use Rattle.network_fates.specs.Options.{plainOptions}
 use Rattle.network.specs.Forms.{joined, headOf, isFormed}
 use Rattle.network.specs.Calls.{callAnswer}
-use Rattle.fates.proofs.OptionForms.{good-done}
+use Rattle.network_fates.proofs.OptionForms.{good-done}
 use Rattle.network.proofs.Calling.{call-ill}
 use Rattle.journal.specs.Calls.{chooses, answerOf}
 use Rattle.journal.proofs.Journaled.{Met, refused-first}

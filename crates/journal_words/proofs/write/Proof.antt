@@ -2,7 +2,7 @@
 use mathlib.Core.Path.{refl, ap, _∙_}
 use Rattle.nights.specs.Net.{goodOptions}
 use Rattle.network.specs.declared.Head.{Head}
-use Rattle.fates.specs.Options.{plainOptions}
+use Rattle.network_fates.specs.Options.{plainOptions}
 use Rattle.network_words.specs.Layout.{headWords}
 use Rattle.network_words.proofs.InPlace.{formed-options}
 use borrow.Author.Needs.{needs}

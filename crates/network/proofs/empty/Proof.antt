@@ -1,8 +1,8 @@
 -- `network::empty` meets its contract: the array of no records is zeros, and the options come back from their words. Assumes nothing.
 use denote.Floats.{passes}
 use Rattle.nights.specs.Record.{wordsOf}
-use Rattle.queue.specs.Packed.{packed}
-use Rattle.fates.proofs.OptionForms.{Held, options-back}
+use Rattle.network_queue.specs.Packed.{packed}
+use Rattle.network_fates.proofs.OptionForms.{Held, options-back}
 use Rattle.network.proofs.empty.Statement.{statement}
 use Rattle.network.proofs.empty.Tie as tie
 

@@ -5,10 +5,10 @@ use borrow.Author.Tests.{not-true, not-false}
 use Rattle.nights.specs.Net.{goodOptions}
 use Rattle.nights.proofs.Kept.{counts}
 use Rattle.network.specs.declared.Network.{Network}
-use Rattle.fates.specs.Options.{plainOptions}
-use Rattle.fates.specs.Answers.{settledOf}
+use Rattle.network_fates.specs.Options.{plainOptions}
+use Rattle.network_fates.specs.Answers.{settledOf}
 use Rattle.network.specs.Forms.{joined}
-use Rattle.fates.proofs.OptionForms.{good-done, refused-bad}
+use Rattle.network_fates.proofs.OptionForms.{good-done, refused-bad}
 use Rattle.network.proofs.WholeForm.{options-fail, counts-fail, all-told}
 use borrow.Author.Needs.{needs}
 use Rattle.network.proofs.formed.Statement.{statement}

@@ -5,10 +5,10 @@ use denote.Floats.{passes}
 use Rattle.nights.specs.Net.{Plain as Call, choose, effect}
 use Rattle.nights.specs.Journal.{tests}
 use Rattle.network.specs.declared.Network.{Network}
-use Rattle.fates.specs.Options.{plainOptions}
-use Rattle.fates.specs.Answers.{settledOf}
+use Rattle.network_fates.specs.Options.{plainOptions}
+use Rattle.network_fates.specs.Answers.{settledOf}
 use Rattle.network.specs.Forms.{joined}
-use Rattle.fates.proofs.OptionForms.{Held}
+use Rattle.network_fates.proofs.OptionForms.{Held}
 use Rattle.network.proofs.Maps.{chosen-network}
 use Rattle.network.proofs.Calling.{call-ill, call-well, stays, follows}
 use borrow.Author.Needs.{needs}

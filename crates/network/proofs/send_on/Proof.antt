@@ -10,11 +10,11 @@ use Rattle.nights.specs.Journal.{Answer, done}
 use Rattle.nights.proofs.Kept.{Counts, options-good}
 use Rattle.network.specs.declared.Network.{Network}
 use Rattle.network.specs.declared.SendAnswer.{SendAnswer}
-use Rattle.fates.specs.Options.{plainOptions}
-use Rattle.fates.specs.Answers.{decisionOf}
+use Rattle.network_fates.specs.Options.{plainOptions}
+use Rattle.network_fates.specs.Answers.{decisionOf}
 use Rattle.network.specs.Answers.{Sending, sentOf, sending, fateAnswer}
 use Rattle.network.specs.Forms.{plainOf, structOf, joined, letterOf}
-use Rattle.fates.proofs.OptionForms.{Held}
+use Rattle.network_fates.proofs.OptionForms.{Held}
 use Rattle.network.proofs.Maps.{plain-formed, counts, sent-network}
 use Rattle.network.proofs.Calling.{stays, unsent, follows, bad-kind, bad-sort, limit-met, fate-refuses, queue-full, send-well, answer-of, refusing-fate, Few, few}
 use borrow.Author.Needs.{needs}

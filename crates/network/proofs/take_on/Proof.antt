@@ -7,12 +7,12 @@ use lib.ListN.{length}
 use Rattle.nights.specs.Net.{take as takes, effect, keep, isDue}
 use Rattle.nights.specs.Record.{recs}
 use Rattle.nights.proofs.Kept.{Counts}
-use Rattle.queue.proofs.Taking.{due-in}
+use Rattle.network_queue.proofs.Taking.{due-in}
 use Rattle.network.specs.declared.Network.{Network}
 use Rattle.network.specs.Answers.{counting}
 use Rattle.network.specs.Calls.{written}
 use Rattle.network.specs.Forms.{joined}
-use Rattle.fates.proofs.OptionForms.{Held}
+use Rattle.network_fates.proofs.OptionForms.{Held}
 use Rattle.network.proofs.Maps.{small, counts, taken-count, taken-out, taken-network}
 use Rattle.network.proofs.Calling.{untaken, follows, take-short, take-well}
 use borrow.Author.Needs.{needs}

@@ -1,8 +1,8 @@
 -- `network::told_by` meets its contract. Assumes nothing.
 use mathlib.Core.Path.{sym, ap}
 use Rattle.nights.specs.Net.{lostBy, replayedBy}
-use Rattle.fates.specs.declared.Decision.{Decision}
-use Rattle.fates.specs.Answers.{decisionOf}
+use Rattle.network_fates.specs.declared.Decision.{Decision}
+use Rattle.network_fates.specs.Answers.{decisionOf}
 use Rattle.network.specs.Answers.{sending, fateAnswer}
 use borrow.Author.Needs.{needs}
 use Rattle.network.proofs.told_by.Statement.{statement}

@@ -9,7 +9,7 @@ use lib.ListN.{length, take, getD}
 use Rattle.nights.specs.Record.{wordsOf, recs}
 use Rattle.nights.specs.Journal.{Answer}
 use Rattle.nights.proofs.Undo.{length-wordsOf}
-use Rattle.queue.proofs.Inserting.{length-recs, wordsOf-recs}
+use Rattle.network_queue.proofs.Inserting.{length-recs, wordsOf-recs}
 use Rattle.network.specs.declared.Head.{Head}
 use Rattle.network.specs.declared.Network.{Network}
 use Rattle.network.specs.Forms.{joined, isFormed}

@@ -5,7 +5,7 @@ use mathlib.Core.List.{[], _∷_}
 use Prim.Native.Nat.{ℕ}
 use borrow.Author.Tests.{not-true, not-false}
 use lib.ListN.{getD}
-use Rattle.queue.proofs.Inserting.{length-recs}
+use Rattle.network_queue.proofs.Inserting.{length-recs}
 use Rattle.network.specs.declared.Head.{Head}
 use Rattle.network.specs.declared.Network.{Network}
 use Rattle.network.specs.Forms.{joined, isFormed}

@@ -8,7 +8,7 @@ use Rattle.nights.specs.Journal.{Answer, done}
 use Rattle.network.specs.declared.Head.{Head}
 use Rattle.network.specs.declared.Network.{Network}
 use Rattle.network.specs.Answers.{sentOf, sending}
-use Rattle.fates.specs.Options.{plainOptions}
+use Rattle.network_fates.specs.Options.{plainOptions}
 use Rattle.network.specs.Forms.{headOf, joined, letterOf}
 use Rattle.network.specs.Calls.{callAnswer, callNetwork}
 use Rattle.network_words.specs.Layout.{headFits, headWords, networkIn}

@@ -7,17 +7,17 @@ use mathlib.Core.Path.{_≡_, sym, _∙_}
 use Prim.Native.Nat.{ℕ}
 use lib.IntN.{ℤ}
 use lib.ListN.{length}
-use Rattle.snapshots.specs.Cluster.{clusterIn}
+use Rattle.properties_snapshots.specs.Cluster.{clusterIn}
 use Rattle.basis.specs.Basis.{plantCount}
 use Rattle.basis.proofs.Laws.{between}
-use Rattle.snapshots.specs.Fits.{snapshotFits, trackerFits}
-use Rattle.snapshots.proofs.Known.{snapshot-known}
-use Rattle.convergence.specs.Convergence.{converged}
-use Rattle.convergence.specs.Core.{coreFits}
-use Rattle.convergence.proofs.Core.{core-known}
+use Rattle.properties_snapshots.specs.Fits.{snapshotFits, trackerFits}
+use Rattle.properties_snapshots.proofs.Known.{snapshot-known}
+use Rattle.properties_convergence.specs.Convergence.{converged}
+use Rattle.properties_convergence.specs.Core.{coreFits}
+use Rattle.properties_convergence.proofs.Core.{core-known}
 use Rattle.properties.specs.Calls.{endRefusal, endAnswer}
-use Rattle.verdicts.specs.declared.Answer.the-variants.{Refused}
-use Rattle.verdicts.specs.declared.Refusal.the-variants.{PlantCount, BadSnapshot, BadTracker}
+use Rattle.properties_verdicts.specs.declared.Answer.the-variants.{Refused}
+use Rattle.properties_verdicts.specs.declared.Refusal.the-variants.{PlantCount, BadSnapshot, BadTracker}
 use Rattle.properties.proofs.end.Statement.{statement}
 use Rattle.properties.proofs.end.Tie as tie
 

@@ -7,14 +7,14 @@ use native.Mathlib.Nat.{sub-zero}
 use mathlib.Core.Logic.{⊎-elim}
 use mathlib.Core.Path.{_≡_, sym, ap, _∙_}
 use Prim.Native.Nat.{ℕ, _-_, _≤_}
-use Rattle.snapshots.specs.Cluster.{Cluster, clusterIn}
-use Rattle.snapshots.proofs.Held.{commit-held, last-held}
-use Rattle.verdicts.specs.Verdicts.{firstOf, atEntry, overCommitted}
-use Rattle.verdicts.proofs.First.{broken-no-pass, first-on, first-stop, first-end}
+use Rattle.properties_snapshots.specs.Cluster.{Cluster, clusterIn}
+use Rattle.properties_snapshots.proofs.Held.{commit-held, last-held}
+use Rattle.properties_verdicts.specs.Verdicts.{firstOf, atEntry, overCommitted}
+use Rattle.properties_verdicts.proofs.First.{broken-no-pass, first-on, first-stop, first-end}
 use Rattle.properties.specs.Ticks.{asked, overEntries}
-use Rattle.verdicts.specs.declared.Answer.{Answer}
-use Rattle.verdicts.specs.declared.Answer.the-variants.{Broken}
-use Rattle.verdicts.specs.declared.Property.{Property}
+use Rattle.properties_verdicts.specs.declared.Answer.{Answer}
+use Rattle.properties_verdicts.specs.declared.Answer.the-variants.{Broken}
+use Rattle.properties_verdicts.specs.declared.Property.{Property}
 use Rattle.properties.proofs.entries.Statement.{statement}
 use Rattle.properties.proofs.entries.Tie as tie
 

@@ -1,7 +1,7 @@
 -- `properties::entry_holds` meets its contract, property by property. Assumes nothing.
 use borrow.Author.Needs.{needs}
 use native.Mathlib.Omega.{arith}
-use Rattle.durability.specs.Durability.{durable}
+use Rattle.properties_durability.specs.Durability.{durable}
 use Rattle.properties.proofs.entry_holds.Statement.{statement}
 use Rattle.properties.proofs.entry_holds.Tie as tie
 

@@ -9,10 +9,10 @@ use Prim.Native.Nat.{ℕ, suc, _-_}
 use lib.ListN.{length, set, replicate}
 use Rattle.basis.specs.Basis.{plantCount}
 use Rattle.basis.proofs.Laws.{between}
-use Rattle.snapshots.specs.Layout.{trackerWords}
+use Rattle.properties_snapshots.specs.Layout.{trackerWords}
 use Rattle.properties.specs.Calls.{freshAnswer, freshWords}
-use Rattle.verdicts.specs.declared.Answer.the-variants.{Pass, Refused}
-use Rattle.verdicts.specs.declared.Refusal.the-variants.{PlantCount, BadTracker}
+use Rattle.properties_verdicts.specs.declared.Answer.the-variants.{Pass, Refused}
+use Rattle.properties_verdicts.specs.declared.Refusal.the-variants.{PlantCount, BadTracker}
 use Rattle.properties.proofs.fresh.Statement.{statement}
 use Rattle.properties.proofs.fresh.Tie as tie
 

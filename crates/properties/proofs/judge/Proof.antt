@@ -1,10 +1,10 @@
 -- `properties::judge` meets its contract: the first answer that is no pass. Assumes nothing.
 use borrow.Author.Needs.{needs}
 use mathlib.Core.Path.{sym, _∙_}
-use Rattle.snapshots.specs.Cluster.{clusterIn}
-use Rattle.verdicts.proofs.First.{no-pass, then-stop}
-use Rattle.commits.specs.Commits.{commitNumbers}
-use Rattle.commits.proofs.Forwards.{forward-known}
+use Rattle.properties_snapshots.specs.Cluster.{clusterIn}
+use Rattle.properties_verdicts.proofs.First.{no-pass, then-stop}
+use Rattle.properties_commits.specs.Commits.{commitNumbers}
+use Rattle.properties_commits.proofs.Forwards.{forward-known}
 use Rattle.properties.specs.Ticks.{judgedEntries, judged}
 use Rattle.properties.proofs.judge.Statement.{statement}
 use Rattle.properties.proofs.judge.Tie as tie

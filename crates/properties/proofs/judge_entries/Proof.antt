@@ -1,10 +1,10 @@
 -- `properties::judge_entries` meets its contract: the first answer that is no pass. Assumes nothing.
 use borrow.Author.Needs.{needs}
 use mathlib.Core.Path.{sym, _∙_}
-use Rattle.snapshots.specs.Cluster.{clusterIn}
-use Rattle.verdicts.proofs.First.{no-pass, then-stop}
+use Rattle.properties_snapshots.specs.Cluster.{clusterIn}
+use Rattle.properties_verdicts.proofs.First.{no-pass, then-stop}
 use Rattle.properties.specs.Ticks.{overEntries, judgedEntries}
-use Rattle.verdicts.specs.declared.Property.the-variants.{PrefixAgreement, NoDuplicates, Durability}
+use Rattle.properties_verdicts.specs.declared.Property.the-variants.{PrefixAgreement, NoDuplicates, Durability}
 use Rattle.properties.proofs.judge_entries.Statement.{statement}
 use Rattle.properties.proofs.judge_entries.Tie as tie
 

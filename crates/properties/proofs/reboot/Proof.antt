@@ -9,12 +9,12 @@ use Prim.Native.Nat.{ℕ, _≤_, _<_}
 use lib.ListN.{set}
 use Rattle.basis.specs.Basis.{plantCount}
 use Rattle.basis.proofs.Laws.{between}
-use Rattle.snapshots.specs.Fits.{trackerFits}
-use Rattle.snapshots.specs.Layout.{lastAt}
-use Rattle.snapshots.proofs.Known.{tracker-known}
+use Rattle.properties_snapshots.specs.Fits.{trackerFits}
+use Rattle.properties_snapshots.specs.Layout.{lastAt}
+use Rattle.properties_snapshots.proofs.Known.{tracker-known}
 use Rattle.properties.specs.Calls.{rebootAnswer, rebootWords}
-use Rattle.verdicts.specs.declared.Answer.the-variants.{Pass, Refused}
-use Rattle.verdicts.specs.declared.Refusal.the-variants.{PlantCount, NoSuchPlant, BadTracker}
+use Rattle.properties_verdicts.specs.declared.Answer.the-variants.{Pass, Refused}
+use Rattle.properties_verdicts.specs.declared.Refusal.the-variants.{PlantCount, NoSuchPlant, BadTracker}
 use Rattle.properties.proofs.reboot.Statement.{statement}
 use Rattle.properties.proofs.reboot.Tie as tie
 

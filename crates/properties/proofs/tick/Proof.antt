@@ -3,14 +3,14 @@ use borrow.Author.Needs.{needs}
 use mathlib.Core.List.{List}
 use mathlib.Core.Path.{_≡_, refl, sym, _∙_}
 use Prim.Native.Nat.{ℕ}
-use Rattle.snapshots.specs.Cluster.{clusterIn}
-use Rattle.verdicts.specs.Verdicts.{onPass}
-use Rattle.verdicts.proofs.First.{no-pass}
-use Rattle.remembering.specs.Remembering.{remembered}
+use Rattle.properties_snapshots.specs.Cluster.{clusterIn}
+use Rattle.properties_verdicts.specs.Verdicts.{onPass}
+use Rattle.properties_verdicts.proofs.First.{no-pass}
+use Rattle.properties_remembering.specs.Remembering.{remembered}
 use Rattle.properties.specs.Calls.{tickAnswer, tickWords}
 use Rattle.properties.proofs.Passed.{tick-known}
-use Rattle.verdicts.specs.declared.Answer.{Answer}
-use Rattle.verdicts.specs.declared.Answer.the-variants.{Pass, Broken, Refused}
+use Rattle.properties_verdicts.specs.declared.Answer.{Answer}
+use Rattle.properties_verdicts.specs.declared.Answer.the-variants.{Pass, Broken, Refused}
 use Rattle.properties.proofs.tick.Statement.{statement}
 use Rattle.properties.proofs.tick.Tie as tie
 

@@ -5,15 +5,15 @@ use mathlib.Core.Bool.{true, false}
 use mathlib.Core.List.{List}
 use mathlib.Core.Path.{_≡_, sym, _∙_}
 use Prim.Native.Nat.{ℕ}
-use Rattle.snapshots.specs.Cluster.{clusterIn}
+use Rattle.properties_snapshots.specs.Cluster.{clusterIn}
 use Rattle.basis.specs.Basis.{plantCount}
 use Rattle.basis.proofs.Laws.{between}
-use Rattle.snapshots.specs.Fits.{snapshotFits, trackerFits}
-use Rattle.snapshots.proofs.Known.{snapshot-known, tracker-known}
+use Rattle.properties_snapshots.specs.Fits.{snapshotFits, trackerFits}
+use Rattle.properties_snapshots.proofs.Known.{snapshot-known, tracker-known}
 use Rattle.properties.specs.Calls.{tickRefusal, tickAnswer}
 use Rattle.properties.specs.Ticks.{judged}
-use Rattle.verdicts.specs.declared.Answer.the-variants.{Refused}
-use Rattle.verdicts.specs.declared.Refusal.the-variants.{PlantCount, BadSnapshot, BadTracker}
+use Rattle.properties_verdicts.specs.declared.Answer.the-variants.{Refused}
+use Rattle.properties_verdicts.specs.declared.Refusal.the-variants.{PlantCount, BadSnapshot, BadTracker}
 use Rattle.properties.proofs.tick_answer.Statement.{statement}
 use Rattle.properties.proofs.tick_answer.Tie as tie
 

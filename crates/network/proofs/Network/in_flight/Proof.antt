@@ -7,7 +7,7 @@ use borrow.Author.Tests.{not-true, not-false}
 use lib.ListN.{length, take}
 use Rattle.nights.specs.Record.{wordsOf, recs}
 use Rattle.nights.proofs.Undo.{length-wordsOf}
-use Rattle.queue.proofs.Inserting.{length-recs, wordsOf-recs}
+use Rattle.network_queue.proofs.Inserting.{length-recs, wordsOf-recs}
 use Rattle.network.specs.Answers.{counting}
 use Rattle.network.specs.Calls.{written}
 use Rattle.network.specs.Forms.{isFormed}

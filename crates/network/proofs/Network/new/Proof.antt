@@ -2,12 +2,12 @@
 use mathlib.Core.Path.{sym, ap, _∙_}
 use Rattle.nights.specs.Net.{Options, fresh}
 use Rattle.nights.specs.Journal.{Answer}
-use Rattle.fates.specs.declared.NetworkOptions.{NetworkOptions}
-use Rattle.fates.specs.Options.{plainOptions}
+use Rattle.network_fates.specs.declared.NetworkOptions.{NetworkOptions}
+use Rattle.network_fates.specs.Options.{plainOptions}
 use Rattle.network.specs.Forms.{structOf}
-use Rattle.fates.specs.Answers.{settledOf}
+use Rattle.network_fates.specs.Answers.{settledOf}
 use Rattle.network.specs.Calls.{firstBy, firstNetwork}
-use Rattle.fates.proofs.OptionForms.{good-done, perfect-plain, perfect-good}
+use Rattle.network_fates.proofs.OptionForms.{good-done, perfect-plain, perfect-good}
 use borrow.Author.Needs.{needs}
 use Rattle.network.proofs.Network.new.Statement.{statement}
 use Rattle.network.proofs.Network.new.Tie as tie

@@ -2,7 +2,7 @@
 use mathlib.Core.Path.{_≡_, sym, _∙_}
 use Rattle.network.specs.Answers.{counting}
 use Rattle.network.specs.Forms.{isFormed}
-use Rattle.queue.proofs.Inserting.{length-recs}
+use Rattle.network_queue.proofs.Inserting.{length-recs}
 use Rattle.network.proofs.Calling.{form-ill, form-well}
 use borrow.Author.Needs.{needs}
 use Rattle.network.proofs.Network.pending.Statement.{statement}

@@ -8,10 +8,10 @@ use Prim.Native.Nat.{ℕ, _+_}
 use lib.Dec.{eqb}
 use lib.ListN.{take}
 use lib.Seq.{length-take-le}
-use Rattle.words.specs.Words.{until, cutAt, wordsOf}
+use Rattle.script_words.specs.Words.{until, cutAt, wordsOf}
 use Rattle.script.specs.Lines.{ofWords, lineSays}
-use Rattle.words.proofs.Walk.{until-within}
-use Rattle.words.proofs.Cutting.{strip-words}
+use Rattle.script_words.proofs.Walk.{until-within}
+use Rattle.script_words.proofs.Cutting.{strip-words}
 use Rattle.script.proofs.line.parse_line.Statement.{statement}
 use Rattle.script.proofs.line.parse_line.Tie as tie
 

@@ -1,9 +1,9 @@
 -- `script::line::parse_words` meets its contract, by the line's first three words. Assumes nothing.
 use mathlib.Core.Path.{sym, ap, _∙_}
 use lib.ListN.{drop}
-use Rattle.words.specs.Words.{wordsOf}
+use Rattle.script_words.specs.Words.{wordsOf}
 use Rattle.script.specs.Lines.{ofWords}
-use Rattle.words.proofs.Cutting.{part, Inside, inside, three-words}
+use Rattle.script_words.proofs.Cutting.{part, Inside, inside, three-words}
 use Rattle.script.proofs.Saying.{blank, one-word, bad-tick, unknown, known}
 use Rattle.script.proofs.line.parse_words.Statement.{statement}
 use Rattle.script.proofs.line.parse_words.Tie as tie

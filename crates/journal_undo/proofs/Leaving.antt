@@ -1,0 +1,155 @@
+-- The network that undoing leaves is the plain form's: its words are those of its records with zeros behind, so it is well formed
+-- exactly if its plain form is. Assumes nothing.
+use Prim.Native.Nat.{ℕ, _+_, _-_, _*_, _≤_}
+use mathlib.Core.Path.{_≡_, refl, sym, ap, _∙_}
+use mathlib.Core.List.{List, _++_}
+use mathlib.Core.Bool.{Bool, true, false, _&&_}
+use native.Mathlib.Omega.{arith}
+use borrow.Author.Tests.{le-leb}
+use lib.Dec.{leb}
+use lib.ListN.{length, drop, replicate, replicate-append-replicate}
+use lib.Seq.{drop-at}
+use Rattle.nights.specs.Record.{Record, wordsOf, recs}
+use Rattle.nights.specs.Net.{capacity, Network as Plain, keep, insertAll, wellFormed}
+use Rattle.nights.specs.Journal.{undone, unsend, untake, checked}
+use Rattle.nights.proofs.Order.{length-split, length-insertAll}
+use Rattle.nights.proofs.Undo.{length-wordsOf}
+use Rattle.basis.proofs.Laws.{both}
+use Rattle.network_queue.specs.Packed.{packed}
+use Rattle.network_queue.specs.Places.{insertedAll}
+use Rattle.network_queue.proofs.Inserting.{length-recs}
+use Rattle.network_queue.proofs.Packing.{unpacked, repacked, packed-zeros, packed-insertAll}
+use Rattle.network_fates.specs.declared.NetworkOptions.{NetworkOptions}
+use Rattle.network.specs.declared.Network.{Network}
+use Rattle.network.specs.Forms.{plainOf, isFormed}
+use Rattle.network.proofs.Maps.{small}
+use Rattle.journal_undo.specs.Undone.{sealedOf, upTo}
+
+right-true : (a b : Bool) → b ≡ true → a && b ≡ a
+right-true true b e = e
+right-true false b e = refl
+
+-- ---- a struct whose words are packed
+
+module _ (s : Network) (l : List Record) (w : s .words ≡ packed l) (p : s .pending ≡ length l) (h : length l ≤ capacity) where
+  formed-is : isFormed s ≡ wellFormed (plainOf s)
+  unfolding isFormed
+  formed-is =
+      right-true (wellFormed (plainOf s)) _
+      (rw (p, w, le-leb (length l) capacity h, packed-zeros l))
+
+  records-are : recs (s .words) 0 (s .pending) ≡ l
+  records-are = rw (w, p, unpacked l)
+
+  sealed-is : (n : Plain) (b : ℕ) → plainOf s ≡ n → sealedOf s b ≡ checked (undone n b)
+  unfolding sealedOf checked
+  sealed-is n b e = rw (formed-is, e)
+
+-- ---- from a well-formed struct
+
+module _ (s : Network) (f : isFormed s ≡ true) (long : length (s .words) ≡ 1024) where
+  abbrev held : List Record
+  held = recs (s .words) 0 (s .pending)
+
+  held-length : length held ≡ s .pending
+  held-length = length-recs (s .words) 0 (s .pending)
+
+  words-are : s .words ≡ packed held
+  unfolding isFormed
+  words-are =
+      let a = both (wellFormed (plainOf s)) _ f in
+      let b = both (leb (s .pending) capacity) _ (a .1) in
+      sym (repacked (s .words) (s .pending) long (small s f) (b .1))
+
+  behind : drop (s .pending * 8) (s .words) ≡ replicate (1024 - 8 * s .pending) 0
+  unfolding packed
+  behind =
+      ap (λ (x : List ℕ). drop (s .pending * 8) x) words-are
+      ∙ (drop-at (wordsOf held) _ (s .pending * 8) (omega (arith, length-wordsOf held, held-length))
+      ∙ ap (λ (k : ℕ). replicate {A = ℕ} (1024 - 8 * k) 0) held-length)
+
+  -- ---- a send
+
+  module _ (q l r d m : ℕ) (w : List ℕ) (c : m ≡ length (keep (upTo q) held))
+      (e : w ≡ wordsOf (keep (upTo q) held) ++ (replicate ((s .pending - m) * 8) 0 ++ drop (s .pending * 8) (s .words))) where
+    few : m ≤ s .pending
+    few = omega (arith, c, length-split (upTo q) held, held-length)
+
+    unsent-words : w ≡ packed (keep (upTo q) held)
+    unfolding packed
+    unsent-words =
+        let z : (s .pending - m) * 8 + (1024 - 8 * s .pending) ≡ 1024 - 8 * length (keep (upTo q) held) = omega (arith, few, c, small s f) in
+        rw (e, behind, replicate-append-replicate {A = ℕ} ((s .pending - m) * 8) (1024 - 8 * s .pending) 0, z)
+
+    abbrev unsent : Network
+    unsent =
+        record {
+          options = s .options;
+          words = w;
+          pending = m;
+          seq = q;
+          sent = s .sent - 1;
+          delivered = s .delivered;
+          lost = l;
+          replayed = r;
+          delayed = d;
+        }
+
+    pub send-leaves : (b : ℕ) → sealedOf unsent b ≡ checked (undone (unsend q l r d (plainOf s)) b)
+    send-leaves b =
+        let h : length (keep (upTo q) held) ≤ capacity = omega (arith, few, c, small s f) in
+        sealed-is unsent (keep (upTo q) held) unsent-words c h (unsend q l r d (plainOf s)) b
+        (rw (records-are unsent (keep (upTo q) held) unsent-words c h))
+
+  -- ---- a take
+
+  module _ (rs : List Record) (t : ℕ) (w : List ℕ) (c : length rs ≡ t) (room : s .pending + t ≤ capacity)
+      (e : w ≡ insertedAll (s .words) (s .pending) rs) where
+    untaken-words : w ≡ packed (insertAll rs held)
+    untaken-words =
+        e
+        ∙ (ap (λ (x : List ℕ). insertedAll x (s .pending) rs) words-are
+        ∙ (ap (λ (k : ℕ). insertedAll (packed held) k rs) (sym held-length)
+        ∙ packed-insertAll rs held (omega (arith, held-length, c, room))))
+
+    abbrev untaken : Network
+    untaken =
+        record {
+          options = s .options;
+          words = w;
+          pending = s .pending + t;
+          seq = s .seq;
+          sent = s .sent;
+          delivered = s .delivered - t;
+          lost = s .lost;
+          replayed = s .replayed;
+          delayed = s .delayed;
+        }
+
+    pub take-leaves : (b : ℕ) → sealedOf untaken b ≡ checked (undone (untake rs (plainOf s)) b)
+    take-leaves b =
+        let p : s .pending + t ≡ length (insertAll rs held) = omega (arith, length-insertAll rs held, held-length, c) in
+        let h : length (insertAll rs held) ≤ capacity = omega (arith, room) in
+        sealed-is untaken (insertAll rs held) untaken-words p h (untake rs (plainOf s)) b
+        (rw (records-are untaken (insertAll rs held) untaken-words p h, c))
+
+  -- ---- a change of options
+
+  module _ (o : NetworkOptions) where
+    abbrev unchosen : Network
+    unchosen =
+        record {
+          options = o;
+          words = s .words;
+          pending = s .pending;
+          seq = s .seq;
+          sent = s .sent;
+          delivered = s .delivered;
+          lost = s .lost;
+          replayed = s .replayed;
+          delayed = s .delayed;
+        }
+
+    pub options-leave : (n : Plain) (b : ℕ) → plainOf unchosen ≡ n → sealedOf unchosen b ≡ checked (undone n b)
+    options-leave n b e =
+        sealed-is unchosen held words-are (sym held-length) (omega (arith, held-length, small s f)) n b e

@@ -1,0 +1,36 @@
+-- `journal_undo::drop_above` meets its contract: what `keep_front` leaves behind the records kept is cleared. Assumes nothing.
+use mathlib.Core.Path.{_∙_}
+use native.Mathlib.Omega.{arith}
+use borrow.Author.Needs.{needs}
+use Rattle.journal_undo.proofs.Keeping.{Moved, ended, same-size, cleared}
+use Rattle.journal_undo.proofs.drop_above.Statement.{statement}
+use Rattle.journal_undo.proofs.drop_above.Tie as tie
+
+moved : (c : tie.After-keep-front) → Moved (c .before .before .args .w .now) (c .keep-front .last .0) (c .before .before .args .last) (c .keep-front .result) (c .before .before .args .n)
+moved c = ended _ _ _ _ _ (c .keep-front .ensures .0) (c .keep-front .ensures .1)
+
+keep-front-requires : tie.Need-keep-front-requires
+keep-front-requires c κs = search needs
+
+mul-clear : tie.Need-mul-clear
+mul-clear c = omega (arith, moved (c .before) .within)
+
+mul-clear-2 : tie.Need-mul-clear-2
+mul-clear-2 c = search needs
+
+clear-requires : tie.Need-clear-requires
+clear-requires c κs =
+    let m = moved (c .before) in (
+      same-size _ _ _ _ _ m (omega arith) ∙ omega arith,
+      omega (arith, m .within),
+      omega arith,
+    )
+
+returns : tie.Need-returns
+returns c =
+    let k = c .before .before .keep-front in
+    (k .ensures .0, cleared _ _ _ _ _ (moved (c .before .before)) _ (c .clear .ensures))
+
+pub drop-above-spec : {M : Type 1} → statement M
+drop-above-spec =
+    tie.close (tie.spec keep-front-requires mul-clear mul-clear-2 clear-requires returns)

@@ -1,0 +1,21 @@
+-- What the code's undoing tells, in the plain form. Assumes nothing.
+use Prim.Native.Nat.{ℕ}
+use mathlib.Core.Bool.{Bool, cond}
+use lib.Dec.{leb}
+use Rattle.nights.specs.Record.{Record}
+use Rattle.nights.specs.Journal.{Undone as Plain, misfit, undone}
+use Rattle.network.specs.declared.Network.{Network}
+use Rattle.network.specs.Forms.{plainOf, isFormed}
+use Rattle.journal_undo.specs.declared.Undone.{Undone}
+
+-- the network from before and where its records start, if they fit
+unfoldable pub undoneOf : Undone → Plain
+undoneOf u = cond (u .fits) (undone (plainOf (u .network)) (u .start)) misfit
+
+-- the same of a network that is still to be tested
+unfoldable pub sealedOf : Network → ℕ → Plain
+sealedOf s start = cond (isFormed s) (undone (plainOf s) start) misfit
+
+-- a record's number is at most that one
+abbrev pub upTo : ℕ → Record → Bool
+upTo last r = leb (r .seq) last

@@ -1,0 +1,71 @@
+// Property 6: a committed entry is held by enough plants to be in every quorum that those not recovering could form.
+ghost use mathlib.Core.List.{List};
+ghost use mathlib.Core.Path.{_≡_};
+ghost use Prim.Native.Nat.{ℕ, _*_, _≤_, _<_};
+ghost use lib.ListN.{length, getD};
+ghost use Rattle.properties_snapshots.specs.Cluster.{entry, clusterIn};
+ghost use Rattle.properties_snapshots.specs.Layout.{plantWords, sizeAt};
+ghost use Rattle.properties_snapshots.specs.Shape.{Snapshot};
+ghost use Rattle.properties_durability.specs.Durability.{participants, neededCopies, holdsCopy, copiesOf};
+use properties_snapshots::ENTRY;
+use properties_snapshots::LOG;
+use properties_snapshots::PLANT;
+use properties_snapshots::SIZE;
+
+// So many copies meet every quorum that the plants not recovering could form.
+pub fn needed_copies(n: usize, plants: &[u64]) -> usize
+    requires { ⌜ (n ≤ 15) × (length (now plants) ≡ n * plantWords) ⌝ }
+    ensures { λ k. ⌜ ((l t : List ℕ) → k ≡ neededCopies n (participants (clusterIn n (now (plants .entry)) l t))) ⌝ }
+{
+    let taking = participants(n, plants);
+    let quorum = basis::quorum(n);
+    if taking + 1 <= quorum {
+        return 0;
+    }
+    taking + 1 - quorum
+}
+
+fn participants(n: usize, plants: &[u64]) -> usize
+    requires { ⌜ (n ≤ 15) × (length (now plants) ≡ n * plantWords) ⌝ }
+    ensures small { λ k. ⌜ k ≤ n ⌝ }
+    ensures counted { λ k. ⌜ ((l t : List ℕ) → k ≡ participants (clusterIn n (now (plants .entry)) l t)) ⌝ }
+{
+    let mut count: usize = 0;
+    let mut q: usize = 0;
+    while q < n {
+        if plants[q * PLANT] != 1 {
+            count += 1;
+        }
+        q += 1;
+    }
+    count
+}
+
+// Property 6: the plants, of those not recovering, that hold the entry of plant r at index i.
+pub fn copies(n: usize, plants: &[u64], logs: &[u64], r: usize, i: usize) -> usize
+    requires { ⌜ Snapshot n (now plants) (now logs) × (r < n) × (i < getD (now plants) (sizeAt r) 0) ⌝ }
+    ensures { λ k. ⌜ ((t : List ℕ) → k ≡ copiesOf (clusterIn n (now (plants .entry)) (now (logs .entry)) t) r i) ⌝ }
+{
+    let mut count: usize = 0;
+    let mut q: usize = 0;
+    while q < n {
+        if holds_copy(n, plants, logs, r, i, q) {
+            count += 1;
+        }
+        q += 1;
+    }
+    count
+}
+
+fn holds_copy(n: usize, plants: &[u64], logs: &[u64], r: usize, i: usize, q: usize) -> bool
+    requires { ⌜ Snapshot n (now plants) (now logs) × (r < n) × (i < getD (now plants) (sizeAt r) 0) × (q < n) ⌝ }
+    ensures { λ b. ⌜ ((t : List ℕ) → b ≡ holdsCopy (clusterIn n (now (plants .entry)) (now (logs .entry)) t) i (entry (clusterIn n (now (plants .entry)) (now (logs .entry)) t) r i) q) ⌝ }
+{
+    if plants[q * PLANT] == 1 {
+        return false;
+    }
+    if properties_snapshots::number(plants, q * PLANT + SIZE) <= i {
+        return false;
+    }
+    properties_snapshots::same_entry(logs, q * LOG + i * ENTRY, logs, r * LOG + i * ENTRY)
+}

@@ -1,0 +1,17 @@
+-- An answer about the properties as a number and four words: 0 and the broken place, with zeros for a pass; or a refusal's number, and
+-- the words as they came. Assumes nothing.
+use Prim.Native.Nat.{ℕ}
+use mathlib.Core.List.{List, [], _∷_}
+use Rattle.properties_verdicts.specs.Verdicts.{propertyNumber, refusalNumber}
+use Rattle.properties_verdicts.specs.declared.Answer.{Answer}
+use Rattle.properties_verdicts.specs.declared.Answer.the-variants.{Pass, Broken, Refused}
+
+abbrev pub answerNumber : Answer → ℕ
+answerNumber Pass = 0
+answerNumber (Broken p r i t) = 0
+answerNumber (Refused e) = refusalNumber e
+
+abbrev pub toldBy : Answer → List ℕ → List ℕ
+toldBy Pass told = 0 ∷ 0 ∷ 0 ∷ 0 ∷ []
+toldBy (Broken p r i t) told = propertyNumber p ∷ r ∷ i ∷ t ∷ []
+toldBy (Refused e) told = told
