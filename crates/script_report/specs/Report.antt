@@ -6,6 +6,7 @@ use mathlib.Core.List.{List, [], _∷_, _++_}
 use Prim.Native.Nat.{ℕ, _+_}
 use lib.Dec.{leb, eqb}
 use lib.ListN.{length, drop}
+use Rattle.numeral.specs.Bytes.{bytes}
 use Rattle.numeral.specs.Writing.{decimal}
 use Rattle.order.specs.Order.{Event}
 use Rattle.script.specs.Faults.{crash, restart, reboot, partition, heal, healAll}
@@ -21,22 +22,22 @@ numberLine key n = key ++ (decimal n ++ 10 ∷ [])
 
 -- the keys, with their `=`
 abbrev pub eventsKey : List ℕ
-eventsKey = 101 ∷ 118 ∷ 101 ∷ 110 ∷ 116 ∷ 115 ∷ 61 ∷ []
+eventsKey = bytes "events="
 
 abbrev pub tickKey : List ℕ
-tickKey = 116 ∷ 105 ∷ 99 ∷ 107 ∷ 61 ∷ []
+tickKey = bytes "tick="
 
 abbrev pub faultKey : List ℕ
-faultKey = 102 ∷ 97 ∷ 117 ∷ 108 ∷ 116 ∷ 61 ∷ []
+faultKey = bytes "fault="
 
 abbrev pub idKey : List ℕ
-idKey = 105 ∷ 100 ∷ 61 ∷ []
+idKey = bytes "id="
 
 abbrev pub refusalKey : List ℕ
-refusalKey = 114 ∷ 101 ∷ 102 ∷ 117 ∷ 115 ∷ 97 ∷ 108 ∷ 61 ∷ []
+refusalKey = bytes "refusal="
 
 abbrev pub lineKey : List ℕ
-lineKey = 108 ∷ 105 ∷ 110 ∷ 101 ∷ 61 ∷ []
+lineKey = bytes "line="
 
 -- a fault's name by its number, 0 to 5; no event has another
 unfoldable pub nameOf : ℕ → List ℕ
