@@ -3,7 +3,7 @@
 -- line feed. Assumes nothing.
 use mathlib.Core.Bool.{cond}
 use mathlib.Core.List.{List, [], _∷_, _++_}
-use Prim.Native.Nat.{ℕ, _+_}
+use Prim.Native.Nat.{ℕ, _+_, _*_}
 use lib.Dec.{leb, eqb}
 use lib.ListN.{length, drop}
 use Rattle.numeral.specs.Bytes.{bytes}
@@ -67,17 +67,20 @@ abbrev pub answerText : Script → List Event → List ℕ
 answerText (Events n) es = listed n es
 answerText (Refused r n) es = numberLine refusalKey (refusalNumber r) ++ numberLine lineKey n
 
--- the words lent to the reader: room for 2,048 events
-abbrev pub room : ℕ
-room = 6144
+-- the most events that the program takes, and the words lent to the reader for them
+abbrev pub mostReported : ℕ
+mostReported = 2048
+
+abbrev pub eventRoom : ℕ
+eventRoom = 3 * mostReported
 
 -- what is written for a text
 unfoldable pub reportText : List ℕ → List ℕ
-reportText text = answerText (answerOf text room) (sortedEvents text)
+reportText text = answerText (answerOf text eventRoom) (sortedEvents text)
 
--- the bytes that are always enough: 28 for a key and a number on the first line, and 66 for each of 2,048 events
+-- the bytes that are always enough: 28 for a key and a number on the first line, and 66 for each event
 abbrev pub enough : ℕ
-enough = 135196
+enough = 28 + 66 * mostReported
 
 -- the answer and the lent bytes: nothing is written where fewer than enough are lent
 unfoldable pub reportOf : List ℕ → ℕ → Reported
