@@ -1,7 +1,6 @@
 // The boundary for the host: our calls over numbers and lent words, for a program in another language to link. A state and an answer are
 // lent words; a call returns 0, or the number of its refusal, and on a refusal no lent word changes. include/bellmantle.h declares each
 // function, each word of each layout and each number.
-use script::Script;
 ghost use mathlib.Core.Path.{_≡_};
 ghost use mathlib.Core.Bool.{not};
 ghost use mathlib.Core.List.{[], _∷_};
@@ -23,7 +22,7 @@ ghost use Rattle.journal_words.specs.Calls.{journalAnswer, journalHead, journal
 ghost use Rattle.plants_words.specs.Calls.{newAnswer, newWords, applyAnswer, applyWords, nonceWords, verdictAnswer, verdictWords, coreAnswer, coreWords, coreAnswered};
 ghost use Rattle.properties.specs.Calls.{freshAnswer, freshWords, rebootAnswer, rebootWords, tickAnswer, tickWords, endAnswer};
 ghost use Rattle.properties_words.specs.Told.{answerNumber, toldBy};
-ghost use Rattle.bellmantle.specs.Packing.{packed};
+ghost use Rattle.script_packed.specs.Packing.{answerWord};
 
 // ---- Fault scripts
 
@@ -31,14 +30,10 @@ ghost use Rattle.bellmantle.specs.Packing.{packed};
 // events there are or, for a refusal, its number times 2^32 and its line.
 #[no_mangle]
 pub extern "C" fn bellmantle_parse_script(text: &[u8], events: &mut [u64]) -> u64
-    ensures answer { λ r. ⌜ r ≡ packed (answerOf (now (text .entry)) (length (now (events .entry)))) ⌝ }
+    ensures answer { λ r. ⌜ r ≡ answerWord (answerOf (now (text .entry)) (length (now (events .entry)))) ⌝ }
     ensures words { λ r. ⌜ now (events .exit) ≡ wordsAfter (now (text .entry)) (now (events .entry)) ⌝ }
 {
-    match script::parse_script(text, events) {
-        Script::Events(count) => count as u64,
-        Script::Refused(refusal, line) => script::refusal_number(refusal) * 0x1_0000_0000
-            + line as u64,
-    }
+    script_packed::parse_script(text, events)
 }
 
 // ---- Network

@@ -1,4 +1,4 @@
--- `faults::read_all` meets its contract, and ends: each turn that goes on has read a byte. The loop's invariant: what was read lies within
+-- `input::read_all` meets its contract, and ends: each turn that goes on has read a byte. The loop's invariant: what was read lies within
 -- the slice, which keeps its length. Assumes nothing.
 use borrow.Author.Needs.{needs}
 use borrow.Rule.Slice.PartMut.{putMid, same-len-mid}
@@ -7,11 +7,11 @@ use mathlib.Core.Path.{_≡_, refl, subst, _∙_}
 use Prim.Native.Nat.{ℕ, _≤_, _-_}
 use lib.ListN.{length, drop, length-drop}
 use lib.Seq.{length-take-le}
-use Rattle.faults.specs.Input.{Moved}
-use Rattle.faults.specs.declared.Got.{Got}
-use Rattle.faults.specs.declared.Got.the-variants.{Bytes}
-use Rattle.faults.proofs.read_all.Statement.{statement}
-use Rattle.faults.proofs.read_all.Tie as tie
+use Rattle.input.specs.Input.{Moved}
+use Rattle.input.specs.declared.Got.{Got}
+use Rattle.input.specs.declared.Got.the-variants.{Bytes}
+use Rattle.input.proofs.read_all.Statement.{statement}
+use Rattle.input.proofs.read_all.Tie as tie
 
 abbrev Inv-loop : tie.InvT-loop
 Inv-loop fd buf₀ done₀ buf done = (done ≤ length buf) × (length buf ≡ length buf₀)

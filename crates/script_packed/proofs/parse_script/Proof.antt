@@ -1,4 +1,4 @@
--- `bellmantle::bellmantle_parse_script` meets its contract: a refusal's number is at most 8 and its line at most the text's last, so that the
+-- `script_packed::parse_script` meets its contract: a refusal's number is at most 8 and its line at most the text's last, so that the
 -- answer fits a word. Assumes nothing.
 use native.Mathlib.Omega.{arith}
 use mathlib.Core.Path.{sym, ap, _∙_}
@@ -8,10 +8,10 @@ use Rattle.script.specs.Scripts.{refusalNumber}
 use Rattle.script.specs.declared.line.Refusal.{Refusal}
 use Rattle.script.specs.declared.line.Refusal.the-variants.{TooLong, NotAscii, OneWord, BadTick, UnknownFault, MissingId, BadId, NoRoom}
 use Rattle.script.proofs.Laws.{refusal-line}
-use Rattle.bellmantle.specs.Packing.{packed}
+use Rattle.script_packed.specs.Packing.{answerWord}
 use borrow.Author.Needs.{needs}
-use Rattle.bellmantle.proofs.bellmantle_parse_script.Statement.{statement}
-use Rattle.bellmantle.proofs.bellmantle_parse_script.Tie as tie
+use Rattle.script_packed.proofs.parse_script.Statement.{statement}
+use Rattle.script_packed.proofs.parse_script.Tie as tie
 
 few : (r : Refusal) → refusalNumber r ≤ 8
 few TooLong = omega arith
@@ -57,7 +57,7 @@ same-length c = search needs
 returns : tie.Need-returns
 returns c =
     let p = c .before .before .before .before .before in
-    (sym (ap packed (sym (p .parse-script .ensures .0) ∙ c .before .count .given .1)), p .parse-script .ensures .1)
+    (sym (ap answerWord (sym (p .parse-script .ensures .0) ∙ c .before .count .given .1)), p .parse-script .ensures .1)
 
 same-length-2 : tie.Need-same-length-2
 same-length-2 c = search needs
@@ -66,12 +66,12 @@ returns-2 : tie.Need-returns-2
 returns-2 c =
     let p = c .before .before .before .before .before .before in
     let g = c .before .before .refusal .given in (
-      ap (λ (n : ℕ). n * 4294967296 + g .0 .1 .0) (c .refusal-number .ensures) ∙ sym (ap packed (sym (p .parse-script .ensures .0) ∙ g .1)),
+      ap (λ (n : ℕ). n * 4294967296 + g .0 .1 .0) (c .refusal-number .ensures) ∙ sym (ap answerWord (sym (p .parse-script .ensures .0) ∙ g .1)),
       p .parse-script .ensures .1,
     )
 
-pub bellmantle-parse-script-spec : {M : Type 1} → statement M
-bellmantle-parse-script-spec =
+pub parse-script-spec : {M : Type 1} → statement M
+parse-script-spec =
     tie.close
     (tie.spec
     parse-script-requires
