@@ -1,4 +1,4 @@
--- The claim applied to two runs: the document's, and one with a mark, a refused call, and a rewind across a take and a second send.
+-- The claim applied to two runs: the table's, and one with a mark, a refused call, and a rewind across a take and a second send.
 -- Of each the standing list is written out; the claim then says what the network is, and no queue is run for it.
 use Prim.Native.Nat.{ℕ, suc}
 use mathlib.Core.Path.{_≡_, refl, sym, ap, subst}
@@ -8,41 +8,42 @@ use mathlib.Core.Bool.{true, false}
 use native.Mathlib.Omega.{arith}
 use lib.ListN.{length, getD}
 use lib.Ieee.{toBits, ofBits}
 use Rattle.nights.specs.Record.{Record, wordsOf, recs}
 use Rattle.nights.specs.Net
 use Rattle.nights.specs.Net.{Plain, send, keep, every, earlier, insertBy, insertAll, dues, lostBy, replayedBy, delayedBy, copies, effect, goodOptions, goodRecord, ahead, rising, goodCounts, wellFormed}
 use Rattle.nights.specs.Journal.{done, refused, Call, plain, rewind, mark, held, used, logged, goodHeader, undoWords, undoAs, undoOne, checked, onward, undoAll, verdict, tests, settle, doPlain, rewound, doRewind, doMark, step}
 use Rattle.nights.specs.Rule.{run, log, strike, struck, stands, reach, reachBy, reached, stack, replay, flat, recorded, optionsBy, fateBy, fates, makes, made, Made, missedBy, untaken, waits, from, Exactly, Told, Claim}
 use Rattle.chance.specs.Probability.{goodWord, isOne, isZero, thresholdOf}
 use Rattle.chance.specs.Draw.{byWord, genBool, genBoolInSend}
 use Rattle.nights.specs.Draws.{isFaulted, extrasFor, extraAt, dueAt, isTick, isLate, alone as aloneOf, both, afterReplay, afterLoss, decided, fateOf}
 use Rattle.nights.proofs.Claim.{claim-of-the-rules}
 use Rattle.nights.proofs.Unique.{exactly-one}
-use Rattle.nights.proofs.Worked.{half, letterAt, rest, doubled, alone, taking, after, answers, four}
+use Rattle.worked.proofs.Runs.{letterAt, rest, doubled, alone, answers, four}
+use Rattle.worked.specs.Table.{options, draws, extras, taking, after}
 
-half-good : goodOptions half ≡ true
-unfolding goodOptions goodWord
-half-good = refl
+options-good : goodOptions options ≡ true
+unfolding toBits goodOptions goodWord
+options-good = refl
 
-claimed : (cs : List Call) → Claim fateOf half rest cs
-claimed cs = claim-of-the-rules half half-good rest cs
+claimed : (cs : List Call) → Claim fateOf options rest cs
+claimed cs = claim-of-the-rules options options-good rest cs
 
 -- the claim of a run whose standing list is known
-known : (cs : List Call) (st : List Plain) → stands fateOf half rest cs ≡ st → Told fateOf half st (after cs .net)
-known cs st e = subst (λ (l : List Plain). Told fateOf half l (after cs .net)) e (claimed cs .told)
+known : (cs : List Call) (st : List Plain) → stands fateOf options rest cs ≡ st → Told fateOf options st (after cs .net)
+known cs st e = subst (λ (l : List Plain). Told fateOf options l (after cs .net)) e (claimed cs .told)
 
 -- words 0 and 1, from what the journal holds
 headed : (cs : List Call)
-    → (held (after cs .words) ≡ reach fateOf half rest cs)
-    × (used (after cs .words) ≡ suc (suc (length (recorded fateOf half (reach fateOf half rest cs) (stack fateOf half rest cs)))))
+    → (held (after cs .words) ≡ reach fateOf options rest cs)
+    × (used (after cs .words) ≡ suc (suc (length (recorded fateOf options (reach fateOf options rest cs) (stack fateOf options rest cs)))))
 headed cs =
     let h = claimed cs .holds in
     (ap (λ (w : List ℕ). getD w 0 0) (h .1), ap (λ (w : List ℕ). getD w 1 0) (h .1))
 
--- ---- the document's run: the send stands alone
+-- ---- the table's run: the send stands alone
 
 abbrev first : Plain
-first = send (letterAt 10) (9223372036854775808 ∷ 0 ∷ []) (5 ∷ 0 ∷ [])
+first = send (letterAt 10) draws extras
 
 -- its copy is due at 17 under the number 1, the original at 12 under the number 2
 abbrev copyFirst : Record
@@ -54,7 +55,7 @@ original = record { due = 12; seq = 2; sentAt = 10; sort = 0; origin = 1; to = 2
 abbrev madeThen : List Plain → List Made
 madeThen later = record { copy = copyFirst; later = later } ∷ record { copy = original; later = later } ∷ []
 
-four-stands : stands fateOf half rest four ≡ first ∷ []
+four-stands : stands fateOf options rest four ≡ first ∷ []
 unfolding
     toBits ofBits goodWord isOne isZero thresholdOf byWord genBool genBoolInSend
     isFaulted extrasFor extraAt dueAt isTick isLate aloneOf both afterReplay afterLoss decided
@@ -110,7 +111,7 @@ unfolding
     logged goodHeader wordsOf recs undoWords undoAs undoOne checked onward undoAll verdict tests settle doPlain rewound doRewind doMark step
     run log strike struck reachBy reached replay flat optionsBy fateBy fates makes made missedBy untaken
 document-run =
-    let t : Told fateOf half (first ∷ []) (after four .net) = known four (first ∷ []) four-stands in (
+    let t : Told fateOf options (first ∷ []) (after four .net) = known four (first ∷ []) four-stands in (
       exactly-one (madeThen []) (after four .net .pending) (original ∷ copyFirst ∷ []) (t .pending) both-wait,
       t .counted .sent,
       t .counted .delivered,
@@ -135,7 +136,7 @@ across =
 abbrev thenTaken : List Plain
 thenTaken = first ∷ Net.take 12 80 ∷ []
 
-across-stands : (answers across ≡ done ∷ done ∷ refused 30 ∷ done ∷ done ∷ done ∷ refused 33 ∷ done ∷ []) × (stands fateOf half rest across ≡ thenTaken)
+across-stands : (answers across ≡ done ∷ done ∷ refused 30 ∷ done ∷ done ∷ done ∷ refused 33 ∷ done ∷ []) × (stands fateOf options rest across ≡ thenTaken)
 unfolding
     toBits ofBits goodWord isOne isZero thresholdOf byWord genBool genBoolInSend
     isFaulted extrasFor extraAt dueAt isTick isLate aloneOf both afterReplay afterLoss decided
@@ -191,7 +192,7 @@ unfolding
     logged goodHeader wordsOf recs undoWords undoAs undoOne checked onward undoAll verdict tests settle doPlain rewound doRewind doMark step
     run log strike struck reachBy reached replay flat optionsBy fateBy fates makes made missedBy untaken
 rewind-across =
-    let t : Told fateOf half thenTaken (after across .net) = known across thenTaken (across-stands .1) in (
+    let t : Told fateOf options thenTaken (after across .net) = known across thenTaken (across-stands .1) in (
       exactly-one (madeThen (Net.take 12 80 ∷ [])) (after across .net .pending) (copyFirst ∷ []) (t .pending) one-waits,
       t .counted .sent,
       t .counted .delivered,
