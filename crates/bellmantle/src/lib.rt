@@ -285,7 +285,7 @@ pub extern "C" fn bellmantle_journal_rewind(
 
 // Fresh plants.
 #[no_mangle]
-pub extern "C" fn bellmantle_plants_new(n: u64, words: &mut [u64; 49]) -> u64
+pub extern "C" fn bellmantle_plants_new(n: u64, words: &mut [u64; plants_words::WORDS]) -> u64
     ensures answer { λ r. ⌜ r ≡ newAnswer n ⌝ }
     ensures words { λ _. ⌜ now (words .exit) ≡ newWords n (now (words .entry)) ⌝ }
 {
@@ -295,7 +295,7 @@ pub extern "C" fn bellmantle_plants_new(n: u64, words: &mut [u64; 49]) -> u64
 // Injects a fault at a tick; a reboot's nonce is told.
 #[no_mangle]
 pub extern "C" fn bellmantle_plants_apply(
-    words: &mut [u64; 49],
+    words: &mut [u64; plants_words::WORDS],
     tick: u64,
     fault: u64,
     id: u64,
@@ -312,7 +312,7 @@ pub extern "C" fn bellmantle_plants_apply(
 // What becomes of a message that is due at plant `to`: its verdict is told.
 #[no_mangle]
 pub extern "C" fn bellmantle_plants_verdict(
-    words: &[u64; 49],
+    words: &[u64; plants_words::WORDS],
     sort: u64,
     id: u64,
     to: u64,
@@ -327,11 +327,11 @@ pub extern "C" fn bellmantle_plants_verdict(
 // Chooses the core of plants that stays up; `full` is no for 0 and yes otherwise.
 #[no_mangle]
 pub extern "C" fn bellmantle_plants_choose_core(
-    words: &mut [u64; 49],
+    words: &mut [u64; plants_words::WORDS],
     recovering: &[u64],
     picks: &[u64],
     full: u64,
-    told: &mut [u64; 17],
+    told: &mut [u64; plants_words::CORE_WORDS],
 ) -> u64
     ensures answer { λ r. ⌜ r ≡ coreAnswer (now (words .entry)) (now (recovering .entry)) (now (picks .entry)) full ⌝ }
     ensures words { λ _. ⌜ now (words .exit) ≡ coreWords (now (words .entry)) (now (recovering .entry)) (now (picks .entry)) full ⌝ }
