@@ -367,7 +367,7 @@ pub extern "C" fn bellmantle_properties_tick(
     plants: &[u64],
     logs: &[u64],
     tracker: &mut [u64],
-    told: &mut [u64; 4],
+    told: &mut [u64; properties_words::ANSWER_WORDS],
 ) -> u64
     ensures answer { λ r. ⌜ r ≡ answerNumber (tickAnswer n (now (plants .entry)) (now (logs .entry)) (now (tracker .entry))) ⌝ }
     ensures tracker { λ _. ⌜ now (tracker .exit) ≡ tickWords n (now (plants .entry)) (now (logs .entry)) (now (tracker .entry)) ⌝ }
@@ -385,7 +385,7 @@ pub extern "C" fn bellmantle_properties_end(
     values: &[i64],
     core: &[u64],
     tracker: &[u64],
-    told: &mut [u64; 4],
+    told: &mut [u64; properties_words::ANSWER_WORDS],
 ) -> u64
     ensures answer { λ r. ⌜ r ≡ answerNumber (endAnswer n (now (plants .entry)) (now (logs .entry)) (now (values .entry)) (now (core .entry)) (now (tracker .entry))) ⌝ }
     ensures told { λ _. ⌜ now (told .exit) ≡ toldBy (endAnswer n (now (plants .entry)) (now (logs .entry)) (now (values .entry)) (now (core .entry)) (now (tracker .entry))) (now (told .entry)) ⌝ }

@@ -9,7 +9,7 @@ use lib.ListN.{length, getD, set, replicate, length-set, length-replicate, getD-
 use lib.Seq.{getD-set-same, getD-set-other}
 use Rattle.properties_snapshots.specs.Cluster.{clusterIn}
 use Rattle.properties_snapshots.specs.Fits.{trackerFits}
-use Rattle.properties_snapshots.specs.Layout.{lastAt, trackerWords}
+use Rattle.properties_snapshots.specs.Layout.{countAt, lengthAt, lastAt, trackerWords}
 use Rattle.properties_snapshots.specs.Shape.{Tracked}
 use Rattle.properties_snapshots.proofs.Known.{tracker-known, tracker-fits}
 use Rattle.properties_verdicts.specs.Verdicts.{onPass}
@@ -59,10 +59,10 @@ reboot-fits n id t h =
     restarted : rebootAnswer n id t ≡ Pass → Tracked n (set t (lastAt id) 0)
     restarted e =
         let k = tracker-known n t h in
-        let one = getD-set-other t (lastAt id) 1 0 0 (omega arith) in
+        let one = getD-set-other t (lastAt id) lengthAt 0 0 (omega arith) in
         record {
           words = length-set t (lastAt id) 0 ∙ k .words;
-          count = getD-set-other t (lastAt id) 0 0 0 (omega arith) ∙ k .count;
+          count = getD-set-other t (lastAt id) countAt 0 0 (omega arith) ∙ k .count;
           canonical = omega (arith, one, k .canonical);
           lasts = λ r g.
               elim (ℕ-discrete r id) [

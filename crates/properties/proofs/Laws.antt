@@ -11,7 +11,7 @@ use lib.IntN.{ℤ}
 use lib.ListN.{length, getD}
 use Rattle.properties_snapshots.specs.Below.{countBelow}
 use Rattle.properties_snapshots.specs.Cluster.{Cluster, noEntry, plant, entry, last, trackerIn, clusterIn}
-use Rattle.properties_snapshots.specs.Layout.{logEntries, commitAt, lastAt, seenAt}
+use Rattle.properties_snapshots.specs.Layout.{logEntries, commitAt, lengthAt, lastAt, seenAt}
 use Rattle.properties_snapshots.proofs.Below.{max-reaches}
 use Rattle.properties_snapshots.proofs.Held.{commit-held, last-held, seen-held}
 use Rattle.properties_snapshots.proofs.Same.{same-entries}
@@ -68,7 +68,7 @@ module _ (n : ℕ) (p l t : List ℕ) (pass : tickAnswer n p l t ≡ Pass) where
 
   -- every plant's entry at each index from its last commit up to its commit is the canonical entry that is remembered
   pub agreed : (r i : ℕ) → r < n → last c r ≤ i → i < plant c r .commit
-      → (i < getD (tickWords n p l t) 1 0) × (entry c r i ≡ getD (trackerIn n (tickWords n p l t) .canonical) i noEntry)
+      → (i < getD (tickWords n p l t) lengthAt 0) × (entry c r i ≡ getD (trackerIn n (tickWords n p l t) .canonical) i noEntry)
   unfolding agrees lengthAfter
   agreed r i h a g =
       let k = tick-known n p l t pass in

@@ -11,9 +11,7 @@ ghost use Rattle.properties_snapshots.specs.Shape.{Snapshot, Tracked, Forward};
 ghost use Rattle.properties_durability.specs.Durability.{participants, neededCopies};
 ghost use Rattle.properties.specs.Calls.{freshAnswer, freshWords, rebootAnswer, rebootWords, tickAnswer, tickWords, endAnswer};
 ghost use Rattle.properties.specs.Ticks.{asked, overEntries, judgedEntries, judged};
-use properties_snapshots::COMMIT;
-use properties_snapshots::LASTS;
-use properties_snapshots::PLANT;
+use properties_snapshots::COUNT;
 use properties_verdicts::Answer;
 use properties_verdicts::Property;
 use properties_verdicts::Refusal;
@@ -30,7 +28,7 @@ pub fn fresh(n: usize, tracker: &mut [u64]) -> Answer
         return Answer::Refused(Refusal::BadTracker);
     }
     clear(tracker);
-    tracker[0] = n as u64;
+    tracker[COUNT] = n as u64;
     Answer::Pass
 }
 
@@ -48,7 +46,7 @@ pub fn reboot(n: usize, id: usize, tracker: &mut [u64]) -> Answer
     if !properties_snapshots::tracker_fits(n, tracker) {
         return Answer::Refused(Refusal::BadTracker);
     }
-    tracker[LASTS + id] = 0;
+    tracker[properties_snapshots::last_at(id)] = 0;
     Answer::Pass
 }
 
@@ -170,8 +168,8 @@ fn entries(
     let mut r: usize = 0;
     let mut i: usize = 0;
     'plants: while r < n {
-        let commit = properties_snapshots::number(plants, r * PLANT + COMMIT);
-        i = properties_snapshots::number(tracker, LASTS + r);
+        let commit = properties_snapshots::commit_of(plants, r);
+        i = properties_snapshots::last_of(tracker, r);
         'indexes: while i < commit {
             if !entry_holds(property, needed, n, plants, logs, tracker, r, i) {
                 break 'plants;

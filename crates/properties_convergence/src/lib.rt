@@ -3,23 +3,19 @@ ghost use mathlib.Core.List.{List};
 ghost use mathlib.Core.Path.{_≡_};
 ghost use Prim.Native.Nat.{ℕ, _*_, _≤_, _<_};
 ghost use lib.ListN.{length, getD};
+ghost use Rattle.basis.specs.Basis.{most};
 ghost use Rattle.properties_snapshots.specs.Cluster.{sameEntry, entryIn, clusterIn};
 ghost use Rattle.properties_snapshots.specs.Layout.{logWords, entryAt, logEntries};
 ghost use Rattle.properties_snapshots.specs.Shape.{Snapshot};
 ghost use Rattle.properties_verdicts.specs.Verdicts.{firstOf, atEntry};
 ghost use Rattle.properties_convergence.specs.Convergence.{sameValue, convergedWith, converged};
 ghost use Rattle.properties_convergence.specs.Core.{risesBelow, coreFits};
-use properties_snapshots::COMMIT;
-use properties_snapshots::ENTRY;
-use properties_snapshots::LOG;
-use properties_snapshots::PLANT;
-use properties_snapshots::SIZE;
 use properties_verdicts::Answer;
 use properties_verdicts::Property;
 
 // 60, at the end: the core's ids, of which there is one at least.
 pub fn core_fits(n: usize, core: &[u64]) -> bool
-    requires { ⌜ n ≤ 15 ⌝ }
+    requires { ⌜ n ≤ most ⌝ }
     ensures { λ b. ⌜ b ≡ coreFits n (now (core .entry)) ⌝ }
 {
     if core.len() == 0 {
@@ -30,7 +26,7 @@ pub fn core_fits(n: usize, core: &[u64]) -> bool
 
 // They rise strictly and stay below n: each is at least one more than the one before.
 fn rises_below(n: usize, core: &[u64]) -> bool
-    requires { ⌜ n ≤ 15 ⌝ }
+    requires { ⌜ n ≤ most ⌝ }
     ensures { λ b. ⌜ b ≡ risesBelow n 0 (now (core .entry)) ⌝ }
 {
     let mut least: usize = 0;
@@ -87,15 +83,15 @@ fn converged_with(
     requires { ⌜ Snapshot n (now plants) (now logs) × (length (now values) ≡ n) × (reference < n) × (id < n) ⌝ }
     ensures { λ a. ⌜ ((t : List ℕ) → a ≡ convergedWith (clusterIn n (now (plants .entry)) (now (logs .entry)) t) (now (values .entry)) reference id) ⌝ }
 {
-    let size = properties_snapshots::number(plants, id * PLANT + SIZE);
-    if size != properties_snapshots::number(plants, reference * PLANT + SIZE) {
+    let size = properties_snapshots::size_of(plants, id);
+    if size != properties_snapshots::size_of(plants, reference) {
         return properties_verdicts::broken(Property::Convergence, id, 0, 1);
     }
     let equal = same_logs(n, logs, reference, id, size);
     let Answer::Pass = equal else {
         return equal;
     };
-    if properties_snapshots::number(plants, id * PLANT + COMMIT) != size {
+    if properties_snapshots::commit_of(plants, id) != size {
         return properties_verdicts::broken(Property::Convergence, id, 0, 3);
     }
     if !same_value(values[id], values[reference]) {
@@ -115,17 +111,12 @@ fn same_value(a: i64, b: i64) -> bool
 
 // The first entry, of the first `size`, in which a plant's log is not the reference's.
 fn same_logs(n: usize, logs: &[u64], reference: usize, id: usize, size: usize) -> Answer
-    requires { ⌜ (n ≤ 15) × (length (now logs) ≡ n * logWords) × (reference < n) × (id < n) × (size ≤ logEntries) ⌝ }
+    requires { ⌜ (n ≤ most) × (length (now logs) ≡ n * logWords) × (reference < n) × (id < n) × (size ≤ logEntries) ⌝ }
     ensures { λ a. ⌜ a ≡ firstOf (λ i. atEntry Property.Convergence id i 2 (sameEntry (entryIn (now (logs .entry)) (entryAt id i)) (entryIn (now (logs .entry)) (entryAt reference i)))) 0 size ⌝ }
 {
     let mut i: usize = 0;
     while i < size {
-        if !properties_snapshots::same_entry(
-            logs,
-            id * LOG + i * ENTRY,
-            logs,
-            reference * LOG + i * ENTRY,
-        ) {
+        if !properties_snapshots::same_logged(logs, id, reference, i) {
             return properties_verdicts::broken(Property::Convergence, id, i, 2);
         }
         i += 1;

@@ -6,11 +6,6 @@ ghost use Rattle.properties_snapshots.specs.Cluster.{clusterIn};
 ghost use Rattle.properties_snapshots.specs.Layout.{commitAt};
 ghost use Rattle.properties_snapshots.specs.Shape.{Snapshot, Tracked, Forward};
 ghost use Rattle.properties_duplicates.specs.Duplicates.{idOf, unseen};
-use properties_snapshots::ENTRIES;
-use properties_snapshots::ENTRY;
-use properties_snapshots::ID;
-use properties_snapshots::LASTS;
-use properties_snapshots::LOG;
 
 // Property 4: the op id differs from the plant's first i ids.
 pub fn unseen(n: usize, plants: &[u64], logs: &[u64], tracker: &[u64], r: usize, i: usize) -> bool
@@ -18,7 +13,7 @@ pub fn unseen(n: usize, plants: &[u64], logs: &[u64], tracker: &[u64], r: usize,
     requires { ⌜ (r < n) × (i < getD (now plants) (commitAt r) 0) ⌝ }
     ensures { λ b. ⌜ b ≡ unseen (clusterIn n (now (plants .entry)) (now (logs .entry)) (now (tracker .entry))) r i ⌝ }
 {
-    let id = logs[r * LOG + i * ENTRY + ID];
+    let id = properties_snapshots::logged_id(logs, r, i);
     let mut j: usize = 0;
     while j < i {
         if id_of(n, plants, logs, tracker, r, j) == id {
@@ -35,8 +30,8 @@ fn id_of(n: usize, plants: &[u64], logs: &[u64], tracker: &[u64], r: usize, j: u
     requires { ⌜ (r < n) × (j < getD (now plants) (commitAt r) 0) ⌝ }
     ensures { λ d. ⌜ d ≡ idOf (clusterIn n (now (plants .entry)) (now (logs .entry)) (now (tracker .entry))) r j ⌝ }
 {
-    if j < properties_snapshots::number(tracker, LASTS + r) {
-        return tracker[LASTS + n + LOG + r * ENTRIES + j];
+    if j < properties_snapshots::last_of(tracker, r) {
+        return tracker[properties_snapshots::seen_at(n, r, j)];
     }
-    logs[r * LOG + j * ENTRY + ID]
+    properties_snapshots::logged_id(logs, r, j)
 }

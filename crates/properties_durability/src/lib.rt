@@ -3,18 +3,15 @@ ghost use mathlib.Core.List.{List};
 ghost use mathlib.Core.Path.{_≡_};
 ghost use Prim.Native.Nat.{ℕ, _*_, _≤_, _<_};
 ghost use lib.ListN.{length, getD};
+ghost use Rattle.basis.specs.Basis.{most};
 ghost use Rattle.properties_snapshots.specs.Cluster.{entry, clusterIn};
 ghost use Rattle.properties_snapshots.specs.Layout.{plantWords, sizeAt};
 ghost use Rattle.properties_snapshots.specs.Shape.{Snapshot};
 ghost use Rattle.properties_durability.specs.Durability.{participants, neededCopies, holdsCopy, copiesOf};
-use properties_snapshots::ENTRY;
-use properties_snapshots::LOG;
-use properties_snapshots::PLANT;
-use properties_snapshots::SIZE;
 
 // So many copies meet every quorum that the plants not recovering could form.
 pub fn needed_copies(n: usize, plants: &[u64]) -> usize
-    requires { ⌜ (n ≤ 15) × (length (now plants) ≡ n * plantWords) ⌝ }
+    requires { ⌜ (n ≤ most) × (length (now plants) ≡ n * plantWords) ⌝ }
     ensures { λ k. ⌜ ((l t : List ℕ) → k ≡ neededCopies n (participants (clusterIn n (now (plants .entry)) l t))) ⌝ }
 {
     let taking = participants(n, plants);
@@ -26,14 +23,14 @@ pub fn needed_copies(n: usize, plants: &[u64]) -> usize
 }
 
 fn participants(n: usize, plants: &[u64]) -> usize
-    requires { ⌜ (n ≤ 15) × (length (now plants) ≡ n * plantWords) ⌝ }
+    requires { ⌜ (n ≤ most) × (length (now plants) ≡ n * plantWords) ⌝ }
     ensures small { λ k. ⌜ k ≤ n ⌝ }
     ensures counted { λ k. ⌜ ((l t : List ℕ) → k ≡ participants (clusterIn n (now (plants .entry)) l t)) ⌝ }
 {
     let mut count: usize = 0;
     let mut q: usize = 0;
     while q < n {
-        if plants[q * PLANT] != 1 {
+        if properties_snapshots::recovering_of(plants, q) != 1 {
             count += 1;
         }
         q += 1;
@@ -61,11 +58,11 @@ fn holds_copy(n: usize, plants: &[u64], logs: &[u64], r: usize, i: usize, q: usi
     requires { ⌜ Snapshot n (now plants) (now logs) × (r < n) × (i < getD (now plants) (sizeAt r) 0) × (q < n) ⌝ }
     ensures { λ b. ⌜ ((t : List ℕ) → b ≡ holdsCopy (clusterIn n (now (plants .entry)) (now (logs .entry)) t) i (entry (clusterIn n (now (plants .entry)) (now (logs .entry)) t) r i) q) ⌝ }
 {
-    if plants[q * PLANT] == 1 {
+    if properties_snapshots::recovering_of(plants, q) == 1 {
         return false;
     }
-    if properties_snapshots::number(plants, q * PLANT + SIZE) <= i {
+    if properties_snapshots::size_of(plants, q) <= i {
         return false;
     }
-    properties_snapshots::same_entry(logs, q * LOG + i * ENTRY, logs, r * LOG + i * ENTRY)
+    properties_snapshots::same_logged(logs, q, r, i)
 }

@@ -11,7 +11,7 @@ use lib.Seq.{getD-append-add, set-getD}
 use Rattle.properties_snapshots.specs.Below.{numbered}
 use Rattle.properties_snapshots.specs.Cluster.{Entry, Cluster, wordsOfEntry, wordsOf, noEntry, plant, entry, last, entryIn, trackerIn, clusterIn}
 use Rattle.basis.specs.Basis.{laid}
-use Rattle.properties_snapshots.specs.Layout.{entryWords, logEntries, commitAt, entryAt, lastAt, canonicalAt, seenAt, trackerWords}
+use Rattle.properties_snapshots.specs.Layout.{entryWords, idAt, logEntries, commitAt, entryAt, countAt, lengthAt, lastsAt, lastAt, canonicalAt, seenAt, trackerWords}
 use Rattle.properties_snapshots.specs.Shape.{Snapshot, Tracked, Forward}
 use Rattle.properties_snapshots.proofs.Below.{length-numbered, getD-numbered, numbered-same, max-start, max-bound, max-reaches, numbered-none}
 use Rattle.properties_snapshots.proofs.Held.{canonical-long, canonical-held, commit-held, last-held}
@@ -29,7 +29,7 @@ words-at (e ∷ es) zero h = refl
 words-at (e ∷ es) (suc k) h =
     same-words (wordsOfEntry e ++ wordsOf es) (wordsOf es) (suc k * entryWords) (k * entryWords)
     (λ m g.
-    let z : suc k * entryWords + m ≡ 4 + (k * entryWords + m) = omega arith in
+    let z : suc k * entryWords + m ≡ entryWords + (k * entryWords + m) = omega arith in
     ap (λ (j : ℕ). getD (wordsOfEntry e ++ wordsOf es) j 0) z ∙ getD-append-add (wordsOfEntry e) (wordsOf es) (k * entryWords + m) 0)
     ∙ words-at es k (omega arith)
 
@@ -48,31 +48,31 @@ module _ (n : ℕ) (p l t : List ℕ) (s : Snapshot n p l) (k : Tracked n t) (f 
   seen-long = ids-kept n p l t s k f n (omega arith) .0 ∙ k .words
 
   -- the canonical length grows to 128 at most
-  reach : (getD t 1 0 ≤ lengthAfter c) × (lengthAfter c ≤ logEntries)
+  reach : (getD t lengthAt 0 ≤ lengthAfter c) × (lengthAfter c ≤ logEntries)
   reach =
       let e = length-held n p l t s k f in (
-        omega (arith, max-start n (λ r. getD p (commitAt r) 0) (getD t 1 0)),
-        omega (arith, max-bound n (λ r. getD p (commitAt r) 0) (getD t 1 0) logEntries (k .canonical) (λ r h. omega (arith, f .within r h, s .sizes r h))),
+        omega (arith, max-start n (λ r. getD p (commitAt r) 0) (getD t lengthAt 0)),
+        omega (arith, max-bound n (λ r. getD p (commitAt r) 0) (getD t lengthAt 0) logEntries (k .canonical) (λ r h. omega (arith, f .within r h, s .sizes r h))),
       )
 
-  appended-long : length (appended c) ≡ lengthAfter c - getD t 1 0
+  appended-long : length (appended c) ≡ lengthAfter c - getD t lengthAt 0
   unfolding appended
   appended-long =
       length-numbered (lengthAfter c - length (c .tracker .canonical)) (λ j. canonicalEntry c (length (c .tracker .canonical) + j))
       ∙ ap (λ (j : ℕ). lengthAfter c - j) (canonical-long n p l t)
 
   -- the place and the number of the words appended
-  appended-words : length (wordsOf (appended c)) ≡ (lengthAfter c - getD t 1 0) * entryWords
+  appended-words : length (wordsOf (appended c)) ≡ (lengthAfter c - getD t lengthAt 0) * entryWords
   appended-words = length-words (appended c) ∙ ap (λ (j : ℕ). j * entryWords) appended-long
 
-  listed-is : listed ≡ laid seen (canonicalAt n (getD t 1 0)) (wordsOf (appended c))
+  listed-is : listed ≡ laid seen (canonicalAt n (getD t lengthAt 0)) (wordsOf (appended c))
   unfolding withEntries
   listed-is = ap (λ (j : ℕ). laid seen (canonicalAt n j) (wordsOf (appended c))) (canonical-long n p l t)
 
   listed-long : length listed ≡ trackerWords n
   listed-long =
       ap length listed-is
-      ∙ (length-laid seen (canonicalAt n (getD t 1 0)) (wordsOf (appended c)) (omega (arith, appended-words, reach, seen-long)) ∙ seen-long)
+      ∙ (length-laid seen (canonicalAt n (getD t lengthAt 0)) (wordsOf (appended c)) (omega (arith, appended-words, reach, seen-long)) ∙ seen-long)
 
   abbrev front : List ℕ
   front = lengthAfter c ∷ numbered n (λ r. plant c r .commit)
@@ -83,27 +83,27 @@ module _ (n : ℕ) (p l t : List ℕ) (s : Snapshot n p l) (k : Tracked n t) (f 
   -- the length of the words, and the words in front
   pub after-words : length (remembered c t) ≡ trackerWords n
   unfolding remembered withCommits
-  after-words = length-laid listed 1 front (omega (arith, front-long, listed-long)) ∙ listed-long
+  after-words = length-laid listed lengthAt front (omega (arith, front-long, listed-long)) ∙ listed-long
 
-  pub after-length : getD (remembered c t) 1 0 ≡ lengthAfter c
+  pub after-length : getD (remembered c t) lengthAt 0 ≡ lengthAfter c
   unfolding remembered withCommits
-  after-length = laid-within listed 1 front 0 (omega (arith, front-long)) (omega (arith, listed-long))
+  after-length = laid-within listed lengthAt front 0 (omega (arith, front-long)) (omega (arith, listed-long))
 
   pub after-last : (r : ℕ) → r < n → getD (remembered c t) (lastAt r) 0 ≡ plant c r .commit
   unfolding remembered withCommits
   after-last r h =
-      let z : lastAt r ≡ 1 + suc r = omega arith in
-      ap (λ (j : ℕ). getD (laid listed 1 front) j 0) z
-      ∙ (laid-within listed 1 front (suc r) (omega (arith, front-long)) (omega (arith, listed-long))
+      let z : lastAt r ≡ lengthAt + suc r = omega arith in
+      ap (λ (j : ℕ). getD (laid listed lengthAt front) j 0) z
+      ∙ (laid-within listed lengthAt front (suc r) (omega (arith, front-long)) (omega (arith, listed-long))
       ∙ getD-numbered n (λ r. plant c r .commit) r 0 h)
 
-  pub after-count : getD (remembered c t) 0 0 ≡ getD t 0 0
+  pub after-count : getD (remembered c t) countAt 0 ≡ getD t countAt 0
   unfolding remembered withCommits
   after-count =
-      laid-below listed 1 front 0 0 (omega arith) (omega (arith, listed-long))
-      ∙ (ap (λ (w : List ℕ). getD w 0 0) listed-is
-      ∙ (laid-below seen (canonicalAt n (getD t 1 0)) (wordsOf (appended c)) 0 0 (omega arith) (omega (arith, seen-long, k .canonical))
-      ∙ ids-kept n p l t s k f n (omega arith) .1 0 (omega arith)))
+      laid-below listed lengthAt front countAt 0 (omega arith) (omega (arith, listed-long))
+      ∙ (ap (λ (w : List ℕ). getD w countAt 0) listed-is
+      ∙ (laid-below seen (canonicalAt n (getD t lengthAt 0)) (wordsOf (appended c)) countAt 0 (omega arith) (omega (arith, seen-long, k .canonical))
+      ∙ ids-kept n p l t s k f n (omega arith) .1 countAt (omega arith)))
 
   -- a tracker that fits does so after a pass
   pub after-tracked : Tracked n (remembered c t)
@@ -117,54 +117,54 @@ module _ (n : ℕ) (p l t : List ℕ) (s : Snapshot n p l) (k : Tracked n t) (f 
       }
 
   -- behind the front the words are those listed
-  behind : (j : ℕ) → 2 + n ≤ j → getD (remembered c t) j 0 ≡ getD listed j 0
+  behind : (j : ℕ) → canonicalAt n 0 ≤ j → getD (remembered c t) j 0 ≡ getD listed j 0
   unfolding remembered withCommits
-  behind j h = laid-above listed 1 front j (omega (arith, front-long)) (omega (arith, front-long, listed-long))
+  behind j h = laid-above listed lengthAt front j (omega (arith, front-long)) (omega (arith, front-long, listed-long))
 
   -- an entry that was canonical before stays
-  known-entry : (i : ℕ) → i < getD t 1 0 → entryIn (remembered c t) (canonicalAt n i) ≡ entryIn t (canonicalAt n i)
+  known-entry : (i : ℕ) → i < getD t lengthAt 0 → entryIn (remembered c t) (canonicalAt n i) ≡ entryIn t (canonicalAt n i)
   known-entry i h =
       same-words (remembered c t) t (canonicalAt n i) (canonicalAt n i)
       (λ m g.
       behind (canonicalAt n i + m) (omega arith)
       ∙ (ap (λ (w : List ℕ). getD w (canonicalAt n i + m) 0) listed-is
-      ∙ (laid-below seen (canonicalAt n (getD t 1 0)) (wordsOf (appended c)) (canonicalAt n i + m) 0 (omega arith) (omega (arith, seen-long, k .canonical))
+      ∙ (laid-below seen (canonicalAt n (getD t lengthAt 0)) (wordsOf (appended c)) (canonicalAt n i + m) 0 (omega arith) (omega (arith, seen-long, k .canonical))
       ∙ ids-kept n p l t s k f n (omega arith) .1 (canonicalAt n i + m) (omega (arith, k .canonical)))))
 
   -- an entry that is appended
-  new-entry : (i : ℕ) → getD t 1 0 ≤ i → i < lengthAfter c
-      → entryIn (remembered c t) (canonicalAt n i) ≡ entryIn (wordsOf (appended c)) ((i - getD t 1 0) * entryWords)
+  new-entry : (i : ℕ) → getD t lengthAt 0 ≤ i → i < lengthAfter c
+      → entryIn (remembered c t) (canonicalAt n i) ≡ entryIn (wordsOf (appended c)) ((i - getD t lengthAt 0) * entryWords)
   new-entry i h g =
-      same-words (remembered c t) (wordsOf (appended c)) (canonicalAt n i) ((i - getD t 1 0) * entryWords)
+      same-words (remembered c t) (wordsOf (appended c)) (canonicalAt n i) ((i - getD t lengthAt 0) * entryWords)
       (λ m o.
-      let z : canonicalAt n i + m ≡ canonicalAt n (getD t 1 0) + ((i - getD t 1 0) * entryWords + m) = omega arith in
+      let z : canonicalAt n i + m ≡ canonicalAt n (getD t lengthAt 0) + ((i - getD t lengthAt 0) * entryWords + m) = omega arith in
       behind (canonicalAt n i + m) (omega arith)
       ∙ (ap (λ (w : List ℕ). getD w (canonicalAt n i + m) 0) listed-is
-      ∙ (ap (λ (j : ℕ). getD (laid seen (canonicalAt n (getD t 1 0)) (wordsOf (appended c))) j 0) z
-      ∙ laid-within seen (canonicalAt n (getD t 1 0)) (wordsOf (appended c)) ((i - getD t 1 0) * entryWords + m) (omega (arith, appended-words))
+      ∙ (ap (λ (j : ℕ). getD (laid seen (canonicalAt n (getD t lengthAt 0)) (wordsOf (appended c))) j 0) z
+      ∙ laid-within seen (canonicalAt n (getD t lengthAt 0)) (wordsOf (appended c)) ((i - getD t lengthAt 0) * entryWords + m) (omega (arith, appended-words))
       (omega (arith, seen-long, k .canonical)))))
 
-  appended-at : (i : ℕ) → getD t 1 0 ≤ i → i < lengthAfter c → getD (appended c) (i - getD t 1 0) noEntry ≡ canonicalEntry c i
+  appended-at : (i : ℕ) → getD t lengthAt 0 ≤ i → i < lengthAfter c → getD (appended c) (i - getD t lengthAt 0) noEntry ≡ canonicalEntry c i
   unfolding appended
   appended-at i h g =
-      let z : getD t 1 0 + (i - getD t 1 0) ≡ i = omega arith in
+      let z : getD t lengthAt 0 + (i - getD t lengthAt 0) ≡ i = omega arith in
       rw (canonical-long n p l t)
-      (getD-numbered (lengthAfter c - getD t 1 0) (λ j. canonicalEntry c (getD t 1 0 + j)) (i - getD t 1 0) noEntry (omega arith)
+      (getD-numbered (lengthAfter c - getD t lengthAt 0) (λ j. canonicalEntry c (getD t lengthAt 0 + j)) (i - getD t lengthAt 0) noEntry (omega arith)
       ∙ ap (canonicalEntry c) z)
 
-  was-canonical : (i : ℕ) → i < getD t 1 0 → canonicalEntry c i ≡ entryIn t (canonicalAt n i)
+  was-canonical : (i : ℕ) → i < getD t lengthAt 0 → canonicalEntry c i ≡ entryIn t (canonicalAt n i)
   unfolding canonicalEntry
-  was-canonical i h = rw (canonical-long n p l t, lt-ltb i (getD t 1 0) h, canonical-held n p l t i h)
+  was-canonical i h = rw (canonical-long n p l t, lt-ltb i (getD t lengthAt 0) h, canonical-held n p l t i h)
 
   -- the canonical entries after a pass
   pub after-canonical : (i : ℕ) → i < lengthAfter c → getD (trackerIn n (remembered c t) .canonical) i noEntry ≡ canonicalEntry c i
   after-canonical i h =
       canonical-held n p l (remembered c t) i (omega (arith, after-length))
-      ∙ elim (decLt i (getD t 1 0)) [
+      ∙ elim (decLt i (getD t lengthAt 0)) [
         | yes g ↦ known-entry i g ∙ sym (was-canonical i g)
         | no g ↦
             new-entry i (omega arith) h
-            ∙ (words-at (appended c) (i - getD t 1 0) (omega (arith, appended-long)) ∙ appended-at i (omega arith) h)
+            ∙ (words-at (appended c) (i - getD t lengthAt 0) (omega (arith, appended-long)) ∙ appended-at i (omega arith) h)
       ]
 
   -- where the id of plant r at index i stands
@@ -174,7 +174,7 @@ module _ (n : ℕ) (p l t : List ℕ) (s : Snapshot n p l) (k : Tracked n t) (f 
     reaches q g = (
       last-held n p l t q g,
       ap length (ids-held n p l t s k f q g) ∙ length-numbered (getD p (commitAt q) 0 - getD t (lastAt q) 0)
-          (λ j. getD l (entryAt q (getD t (lastAt q) 0 + j) + 2) 0),
+          (λ j. getD l (idAt (entryAt q (getD t (lastAt q) 0 + j))) 0),
     )
 
     -- the ids of the plants before it lie before it, and those of the plants after it behind it
@@ -216,7 +216,7 @@ module _ (n : ℕ) (p l t : List ℕ) (s : Snapshot n p l) (k : Tracked n t) (f 
     from-ids =
         behind (seenAt n r i) (omega arith)
         ∙ (ap (λ (w : List ℕ). getD w (seenAt n r i) 0) listed-is
-        ∙ laid-above seen (canonicalAt n (getD t 1 0)) (wordsOf (appended c)) (seenAt n r i)
+        ∙ laid-above seen (canonicalAt n (getD t lengthAt 0)) (wordsOf (appended c)) (seenAt n r i)
         (omega (arith, appended-words, reach)) (omega (arith, appended-words, reach, seen-long)))
 
     -- an id newly seen, and one that stays
@@ -250,18 +250,18 @@ module _ (n : ℕ) (p l t : List ℕ) (s : Snapshot n p l) (k : Tracked n t) (f 
     unfolding withIds
     no-ids zero h = refl
     no-ids (suc r) h =
-        let ids : ℕ → ℕ = λ j. getD l (entryAt r (getD t (lastAt r) 0 + j) + 2) 0 in
+        let ids : ℕ → ℕ = λ j. getD l (idAt (entryAt r (getD t (lastAt r) 0 + j))) 0 in
         let z : getD p (commitAt r) 0 - getD t (lastAt r) 0 ≡ 0 = omega (arith, still r (omega arith)) in
         ap (laid (withIds c r t) (seenAt n r (last c r))) (ids-held n p l t s k f r (omega arith) ∙ (ap (λ (j : ℕ). numbered j ids) z ∙ numbered-none ids))
         ∙ (laid-none (withIds c r t) (seenAt n r (last c r)) ∙ no-ids r (omega arith))
 
-    as-long : lengthAfter c ≡ getD t 1 0
+    as-long : lengthAfter c ≡ getD t lengthAt 0
     as-long =
         omega (
           arith,
           reach .0,
           length-held n p l t s k f,
-          max-bound n (λ r. getD p (commitAt r) 0) (getD t 1 0) (getD t 1 0) (omega arith) (λ r h. omega (arith, still r h, k .lasts r h)),
+          max-bound n (λ r. getD p (commitAt r) 0) (getD t lengthAt 0) (getD t lengthAt 0) (omega arith) (λ r h. omega (arith, still r h, k .lasts r h)),
         )
 
     none-appended : wordsOf (appended c) ≡ []
@@ -272,18 +272,18 @@ module _ (n : ℕ) (p l t : List ℕ) (s : Snapshot n p l) (k : Tracked n t) (f 
         (ap (λ (j : ℕ). numbered j (λ j. canonicalEntry c (length (c .tracker .canonical) + j))) z
         ∙ numbered-none (λ j. canonicalEntry c (length (c .tracker .canonical) + j)))
 
-    same-front : front ≡ getD t 1 0 ∷ numbered n (λ r. getD t (2 + r) 0)
+    same-front : front ≡ getD t lengthAt 0 ∷ numbered n (λ r. getD t (lastAt r) 0)
     same-front =
         ap (λ (x : ℕ). x ∷ numbered n (λ r. plant c r .commit)) as-long
-        ∙ ap (λ (x : List ℕ). getD t 1 0 ∷ x) (numbered-same n (λ r. plant c r .commit) (λ r. getD t (2 + r) 0) (λ r h. commit-held n p l t r h ∙ still r h))
+        ∙ ap (λ (x : List ℕ). getD t lengthAt 0 ∷ x) (numbered-same n (λ r. plant c r .commit) (λ r. getD t (lastAt r) 0) (λ r h. commit-held n p l t r h ∙ still r h))
 
     pub nothing-written : remembered c t ≡ t
     unfolding remembered withCommits
     nothing-written =
-        let listed-same : listed ≡ t = listed-is ∙ (ap (laid seen (canonicalAt n (getD t 1 0))) none-appended ∙
-        (laid-none seen (canonicalAt n (getD t 1 0)) ∙ no-ids n (omega arith))) in
-        ap (λ (x : List ℕ). laid x 1 front) listed-same
-        ∙ (ap (laid t 1) same-front
-        ∙ (sym (laid-first t 1 (getD t 1 0) (numbered n (λ r. getD t (2 + r) 0)) (omega (arith, k .words)))
-        ∙ (ap (λ (x : List ℕ). laid x 2 (numbered n (λ r. getD t (2 + r) 0))) (set-getD t 1 0)
-        ∙ laid-same t 2 n (omega (arith, k .words)))))
+        let listed-same : listed ≡ t = listed-is ∙ (ap (laid seen (canonicalAt n (getD t lengthAt 0))) none-appended ∙
+        (laid-none seen (canonicalAt n (getD t lengthAt 0)) ∙ no-ids n (omega arith))) in
+        ap (λ (x : List ℕ). laid x lengthAt front) listed-same
+        ∙ (ap (laid t lengthAt) same-front
+        ∙ (sym (laid-first t lengthAt (getD t lengthAt 0) (numbered n (λ r. getD t (lastAt r) 0)) (omega (arith, k .words)))
+        ∙ (ap (λ (x : List ℕ). laid x lastsAt (numbered n (λ r. getD t (lastAt r) 0))) (set-getD t lengthAt 0)
+        ∙ laid-same t lastsAt n (omega (arith, k .words)))))

@@ -8,7 +8,7 @@ use Prim.Native.Nat.{ℕ, zero, suc, _+_, _-_, _*_, _≤_, _<_}
 use lib.ListN.{length, getD, length-append}
 use Rattle.properties_snapshots.specs.Below.{numbered, maxBelow}
 use Rattle.properties_snapshots.specs.Cluster.{Entry, wordsOfEntry, wordsOf, plant, entry, last, entryIn, clusterIn}
-use Rattle.properties_snapshots.specs.Layout.{entryWords, logWords, commitAt, entryAt, lastAt, seenAt}
+use Rattle.properties_snapshots.specs.Layout.{entryWords, idAt, commitAt, entryAt, lengthAt, lastAt, seenAt}
 use Rattle.properties_snapshots.specs.Shape.{Snapshot, Tracked, Forward}
 use Rattle.properties_snapshots.proofs.Below.{length-numbered, numbered-same, max-same, max-reached}
 use Rattle.properties_snapshots.proofs.Held.{canonical-long, commit-held, entry-held, last-held}
@@ -32,26 +32,26 @@ module _ (n : ℕ) (p l t : List ℕ) (s : Snapshot n p l) (k : Tracked n t) (f 
   -- the ids of plant r, in words
   pub ids-held : (r : ℕ) → r < n
       → newIds (clusterIn n p l t) r
-      ≡ numbered (getD p (commitAt r) 0 - getD t (lastAt r) 0) (λ j. getD l (entryAt r (getD t (lastAt r) 0 + j) + 2) 0)
+      ≡ numbered (getD p (commitAt r) 0 - getD t (lastAt r) 0) (λ j. getD l (idAt (entryAt r (getD t (lastAt r) 0 + j))) 0)
   unfolding newIds
   ids-held r h =
       let c = clusterIn n p l t in
       rw (commit-held n p l t r h, last-held n p l t r h)
       (numbered-same (getD p (commitAt r) 0 - getD t (lastAt r) 0) (λ j. entry c r (getD t (lastAt r) 0 + j) .id)
-      (λ j. getD l (entryAt r (getD t (lastAt r) 0 + j) + 2) 0)
+      (λ j. getD l (idAt (entryAt r (getD t (lastAt r) 0 + j))) 0)
       (λ j g. ap (λ (e : Entry). e .id) (entry-held n p l t r h (getD t (lastAt r) 0 + j) (omega (arith, f .within r h)))))
 
   -- the ids lie in the last part: the words before it stay
   pub ids-kept : (r : ℕ) → r ≤ n
       → (length (withIds (clusterIn n p l t) r t) ≡ length t)
-      × ((j : ℕ) → j < 2 + n + logWords → getD (withIds (clusterIn n p l t) r t) j 0 ≡ getD t j 0)
+      × ((j : ℕ) → j < seenAt n 0 0 → getD (withIds (clusterIn n p l t) r t) j 0 ≡ getD t j 0)
   unfolding withIds
   ids-kept zero h = (refl, λ j g. refl)
   ids-kept (suc r) h =
       let c = clusterIn n p l t in
       let i = ids-kept r (omega arith) in
       let m = ap length (ids-held r (omega arith)) ∙ length-numbered (getD p (commitAt r) 0 - getD t (lastAt r) 0)
-      (λ j. getD l (entryAt r (getD t (lastAt r) 0 + j) + 2) 0) in
+      (λ j. getD l (idAt (entryAt r (getD t (lastAt r) 0 + j))) 0) in
       let e = last-held n p l t r (omega arith) in
       let a : seenAt n r (last c r) + length (newIds c r) ≤ length (withIds c r t) =
       omega (arith, k .words, s .sizes r (omega arith), f .within r (omega arith), f .onward r (omega arith)) in (
@@ -60,23 +60,23 @@ module _ (n : ℕ) (p l t : List ℕ) (s : Snapshot n p l) (k : Tracked n t) (f 
       )
 
   -- the length afterwards, and the entries appended
-  pub length-held : lengthAfter (clusterIn n p l t) ≡ maxBelow n (λ r. getD p (commitAt r) 0) (getD t 1 0)
+  pub length-held : lengthAfter (clusterIn n p l t) ≡ maxBelow n (λ r. getD p (commitAt r) 0) (getD t lengthAt 0)
   unfolding lengthAfter
   length-held =
       ap (λ (z : ℕ). maxBelow n (λ r. plant (clusterIn n p l t) r .commit) z) (canonical-long n p l t)
-      ∙ max-same n (λ r. plant (clusterIn n p l t) r .commit) (λ r. getD p (commitAt r) 0) (getD t 1 0) (λ r h. commit-held n p l t r h)
+      ∙ max-same n (λ r. plant (clusterIn n p l t) r .commit) (λ r. getD p (commitAt r) 0) (getD t lengthAt 0) (λ r h. commit-held n p l t r h)
 
-  beyond : (i : ℕ) → getD t 1 0 ≤ i → canonicalEntry (clusterIn n p l t) i ≡ entry (clusterIn n p l t) (committer (clusterIn n p l t) i) i
+  beyond : (i : ℕ) → getD t lengthAt 0 ≤ i → canonicalEntry (clusterIn n p l t) i ≡ entry (clusterIn n p l t) (committer (clusterIn n p l t) i) i
   unfolding canonicalEntry
-  beyond i h = rw (canonical-long n p l t, le-ltb i (getD t 1 0) h)
+  beyond i h = rw (canonical-long n p l t, le-ltb i (getD t lengthAt 0) h)
 
-  pub appended-held : (longest : ℕ) → longest ≡ maxBelow n (λ r. getD p (commitAt r) 0) (getD t 1 0)
+  pub appended-held : (longest : ℕ) → longest ≡ maxBelow n (λ r. getD p (commitAt r) 0) (getD t lengthAt 0)
       → appended (clusterIn n p l t)
-      ≡ numbered (longest - getD t 1 0) (λ j. entryIn l (entryAt (committer (clusterIn n p l t) (getD t 1 0 + j)) (getD t 1 0 + j)))
+      ≡ numbered (longest - getD t lengthAt 0) (λ j. entryIn l (entryAt (committer (clusterIn n p l t) (getD t lengthAt 0 + j)) (getD t lengthAt 0 + j)))
   unfolding appended
   appended-held longest e =
       let c = clusterIn n p l t in
-      let known = getD t 1 0 in
+      let known = getD t lengthAt 0 in
       rw (length-held, ← e, canonical-long n p l t)
       (numbered-same (longest - known) (λ j. canonicalEntry c (known + j)) (λ j. entryIn l (entryAt (committer c (known + j)) (known + j)))
       (λ j g.

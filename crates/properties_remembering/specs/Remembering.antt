@@ -6,7 +6,7 @@ use lib.ListN.{length}
 use Rattle.properties_snapshots.specs.Below.{numbered, maxBelow}
 use Rattle.properties_snapshots.specs.Cluster.{Entry, Cluster, wordsOf, plant, entry, last}
 use Rattle.basis.specs.Basis.{laid}
-use Rattle.properties_snapshots.specs.Layout.{canonicalAt, seenAt}
+use Rattle.properties_snapshots.specs.Layout.{lengthAt, canonicalAt, seenAt}
 use Rattle.properties_agreement.specs.Agreement.{canonicalEntry}
 
 -- the canonical length after a pass, and the entries appended
@@ -32,7 +32,7 @@ withEntries c t = laid t (canonicalAt (c .size) (length (c .tracker .canonical))
 
 -- with the canonical length and the last commits
 unfoldable pub withCommits : Cluster → List ℕ → List ℕ
-withCommits c t = laid t 1 (lengthAfter c ∷ numbered (c .size) (λ r. plant c r .commit))
+withCommits c t = laid t lengthAt (lengthAfter c ∷ numbered (c .size) (λ r. plant c r .commit))
 
 -- the words after a pass: these, and no other word
 unfoldable pub remembered : Cluster → List ℕ → List ℕ

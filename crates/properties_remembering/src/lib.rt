@@ -5,19 +5,13 @@ ghost use Prim.Native.Nat.{ℕ, _+_, _-_, _*_, _≤_, _<_};
 ghost use lib.ListN.{length, getD};
 ghost use Rattle.properties_snapshots.specs.Below.{numbered, maxBelow};
 ghost use Rattle.properties_snapshots.specs.Cluster.{wordsOfEntry, wordsOf, entryIn, clusterIn};
-ghost use Rattle.basis.specs.Basis.{laid};
-ghost use Rattle.properties_snapshots.specs.Layout.{logWords, plantWords, commitAt, entryAt, canonicalAt, seenAt, trackerWords, entryWords, logEntries};
+ghost use Rattle.basis.specs.Basis.{fewest, most, laid};
+ghost use Rattle.properties_snapshots.specs.Layout.{logWords, plantWords, commitAt, entryAt, lengthAt, canonicalAt, seenAt, trackerWords, entryWords, logEntries};
 ghost use Rattle.properties_snapshots.specs.Shape.{Snapshot, Tracked, Forward};
 ghost use Rattle.properties_agreement.specs.Agreement.{committer};
 ghost use Rattle.properties_remembering.specs.Remembering.{withIds, remembered};
-use properties_snapshots::COMMIT;
-use properties_snapshots::ENTRIES;
 use properties_snapshots::ENTRY;
-use properties_snapshots::ID;
-use properties_snapshots::LASTS;
 use properties_snapshots::LENGTH;
-use properties_snapshots::LOG;
-use properties_snapshots::PLANT;
 
 // After a pass: the newly seen ids, the appended entries, the last commits and the canonical length. The ids come
 // first, since the last commits say where they begin.
@@ -34,13 +28,13 @@ pub fn remember(n: usize, plants: &[u64], logs: &[u64], tracker: &mut [u64])
 
 // The canonical length with all that is committed now.
 fn length_after(n: usize, plants: &[u64], known: usize) -> usize
-    requires { ⌜ (n ≤ 15) × (length (now plants) ≡ n * plantWords) ⌝ }
+    requires { ⌜ (n ≤ most) × (length (now plants) ≡ n * plantWords) ⌝ }
     ensures { λ k. ⌜ k ≡ maxBelow n (λ r. getD (now (plants .entry)) (commitAt r) 0) known ⌝ }
 {
     let mut longest = known;
     let mut r: usize = 0;
     while r < n {
-        let commit = properties_snapshots::number(plants, r * PLANT + COMMIT);
+        let commit = properties_snapshots::commit_of(plants, r);
         if longest < commit {
             longest = commit;
         }
@@ -55,8 +49,8 @@ fn put_ids(n: usize, plants: &[u64], logs: &[u64], tracker: &mut [u64])
 {
     let mut r: usize = 0;
     while r < n {
-        let last = properties_snapshots::number(tracker, LASTS + r);
-        let commit = properties_snapshots::number(plants, r * PLANT + COMMIT);
+        let last = properties_snapshots::last_of(tracker, r);
+        let commit = properties_snapshots::commit_of(plants, r);
         put_plant_ids(n, r, last, commit, logs, tracker);
         r += 1;
     }
@@ -64,27 +58,33 @@ fn put_ids(n: usize, plants: &[u64], logs: &[u64], tracker: &mut [u64])
 
 // The ids of a plant's entries from `last` up to `commit`.
 fn put_plant_ids(n: usize, r: usize, last: usize, commit: usize, logs: &[u64], tracker: &mut [u64])
-    requires { ⌜ (n ≤ 15) × (r < n) × (last ≤ commit) × (commit ≤ logEntries) × (length (now logs) ≡ n * logWords) × (length (now tracker) ≡ trackerWords n) ⌝ }
+    requires { ⌜ (n ≤ most) × (r < n) × (last ≤ commit) × (commit ≤ logEntries) × (length (now logs) ≡ n * logWords) × (length (now tracker) ≡ trackerWords n) ⌝ }
     ensures { λ _. ⌜ now (tracker .exit) ≡ laid (now (tracker .entry)) (seenAt n r last) (numbered (commit - last) (λ k. entryIn (now (logs .entry)) (entryAt r (last + k)) .id)) ⌝ }
 {
     let mut i = last;
     while i < commit {
-        let id = logs[r * LOG + i * ENTRY + ID];
-        tracker[LASTS + n + LOG + r * ENTRIES + i] = id;
+        let id = properties_snapshots::logged_id(logs, r, i);
+        tracker[properties_snapshots::seen_at(n, r, i)] = id;
         i += 1;
     }
 }
 
 // The canonical entries from `known` up to `longest`, each of the first plant that committed it.
 fn append(n: usize, plants: &[u64], logs: &[u64], tracker: &mut [u64], known: usize, longest: usize)
-    requires { ⌜ (3 ≤ n) × (n ≤ 15) × (length (now plants) ≡ n * plantWords) × (length (now logs) ≡ n * logWords) × (length (now tracker) ≡ trackerWords n) ⌝ }
+    requires { ⌜ (fewest ≤ n) × (n ≤ most) × (length (now plants) ≡ n * plantWords) × (length (now logs) ≡ n * logWords) × (length (now tracker) ≡ trackerWords n) ⌝ }
     requires { ⌜ (known ≤ longest) × (longest ≤ logEntries) ⌝ }
     ensures { λ _. ⌜ ((t : List ℕ) → now (tracker .exit) ≡ laid (now (tracker .entry)) (canonicalAt n known) (wordsOf (numbered (longest - known) (λ k. entryIn (now (logs .entry)) (entryAt (committer (clusterIn n (now (plants .entry)) (now (logs .entry)) t) (known + k)) (known + k)))))) ⌝ }
 {
     let mut i = known;
     while i < longest {
         let q = properties_agreement::committer(n, plants, i);
-        copy_entry(logs, q * LOG + i * ENTRY, tracker, LASTS + n + i * ENTRY);
+        let from = properties_snapshots::entry_at(q, i);
+        copy_entry(
+            logs,
+            from,
+            tracker,
+            properties_snapshots::canonical_at(n, i),
+        );
         i += 1;
     }
 }
@@ -94,21 +94,22 @@ fn copy_entry(logs: &[u64], from: usize, tracker: &mut [u64], to: usize)
     requires { ⌜ (from + entryWords ≤ length (now logs)) × (to + entryWords ≤ length (now tracker)) ⌝ }
     ensures { λ _. ⌜ now (tracker .exit) ≡ laid (now (tracker .entry)) to (wordsOfEntry (entryIn (now (logs .entry)) from)) ⌝ }
 {
-    tracker[to] = logs[from];
-    tracker[to + 1] = logs[from + 1];
-    tracker[to + 2] = logs[from + 2];
-    tracker[to + 3] = logs[from + 3];
+    let mut k: usize = 0;
+    while k < ENTRY {
+        tracker[to + k] = logs[from + k];
+        k += 1;
+    }
 }
 
 fn put_commits(n: usize, plants: &[u64], tracker: &mut [u64], longest: usize)
-    requires { ⌜ (n ≤ 15) × (length (now plants) ≡ n * plantWords) × (length (now tracker) ≡ trackerWords n) ⌝ }
-    ensures { λ _. ⌜ now (tracker .exit) ≡ laid (now (tracker .entry)) 1 (longest ∷ numbered n (λ r. getD (now (plants .entry)) (commitAt r) 0)) ⌝ }
+    requires { ⌜ (n ≤ most) × (length (now plants) ≡ n * plantWords) × (length (now tracker) ≡ trackerWords n) ⌝ }
+    ensures { λ _. ⌜ now (tracker .exit) ≡ laid (now (tracker .entry)) lengthAt (longest ∷ numbered n (λ r. getD (now (plants .entry)) (commitAt r) 0)) ⌝ }
 {
     tracker[LENGTH] = longest as u64;
     let mut r: usize = 0;
     while r < n {
-        let commit = plants[r * PLANT + COMMIT];
-        tracker[LASTS + r] = commit;
+        let commit = properties_snapshots::commit_of(plants, r);
+        tracker[properties_snapshots::last_at(r)] = commit as u64;
         r += 1;
     }
 }

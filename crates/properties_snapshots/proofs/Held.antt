@@ -6,17 +6,17 @@ use lib.Dec.{eqb}
 use lib.ListN.{length, getD}
 use Rattle.properties_snapshots.specs.Below.{numbered}
 use Rattle.properties_snapshots.specs.Cluster.{Plant, noEntry, noPlant, plant, entry, last, seenId, entryIn, plantIn, trackerIn, clusterIn}
-use Rattle.properties_snapshots.specs.Layout.{logEntries, recoveringAt, commitAt, opAt, sizeAt, entryAt, lastAt, canonicalAt, seenAt}
+use Rattle.properties_snapshots.specs.Layout.{logEntries, recoveringAt, commitAt, opAt, sizeAt, entryAt, lengthAt, lastAt, canonicalAt, seenAt}
 use Rattle.properties_snapshots.proofs.Below.{length-numbered, getD-numbered}
 
 module _ (n : ℕ) (p l t : List ℕ) where
-  pub canonical-long : length (trackerIn n t .canonical) ≡ getD t 1 0
+  pub canonical-long : length (trackerIn n t .canonical) ≡ getD t lengthAt 0
   unfolding trackerIn
-  canonical-long = length-numbered (getD t 1 0) (λ i. entryIn t (canonicalAt n i))
+  canonical-long = length-numbered (getD t lengthAt 0) (λ i. entryIn t (canonicalAt n i))
 
-  pub canonical-held : (i : ℕ) → i < getD t 1 0 → getD (trackerIn n t .canonical) i noEntry ≡ entryIn t (canonicalAt n i)
+  pub canonical-held : (i : ℕ) → i < getD t lengthAt 0 → getD (trackerIn n t .canonical) i noEntry ≡ entryIn t (canonicalAt n i)
   unfolding trackerIn
-  canonical-held i h = getD-numbered (getD t 1 0) (λ i. entryIn t (canonicalAt n i)) i noEntry h
+  canonical-held i h = getD-numbered (getD t lengthAt 0) (λ i. entryIn t (canonicalAt n i)) i noEntry h
 
   module _ (r : ℕ) (in-range : r < n) where
     plant-held : plant (clusterIn n p l t) r ≡ plantIn p l r

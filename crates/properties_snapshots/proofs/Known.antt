@@ -9,7 +9,7 @@ use lib.ListN.{length, getD}
 use Rattle.basis.specs.Basis.{plantCount}
 use Rattle.basis.proofs.Laws.{both, between}
 use Rattle.properties_snapshots.specs.Fits.{plantsFit, snapshotFits, lastsFit, trackerFits}
-use Rattle.properties_snapshots.specs.Layout.{logEntries, logWords, plantWords, recoveringAt, sizeAt, lastAt, trackerWords}
+use Rattle.properties_snapshots.specs.Layout.{logEntries, logWords, plantWords, recoveringAt, sizeAt, countAt, lengthAt, lastAt, trackerWords}
 use Rattle.properties_snapshots.specs.Shape.{Snapshot, Tracked}
 use Rattle.properties_snapshots.proofs.Below.{all-true, all-of}
 
@@ -32,19 +32,19 @@ snapshot-known n p l e f =
 pub tracker-known : (n : ℕ) (t : List ℕ) → trackerFits n t ≡ true → Tracked n t
 unfolding trackerFits lastsFit
 tracker-known n t e =
-    let b = both (eqb (length t) (trackerWords n) && eqb (getD t 0 0) n && leb (getD t 1 0) logEntries) (lastsFit n t) e in
-    let d = both (eqb (length t) (trackerWords n) && eqb (getD t 0 0) n) (leb (getD t 1 0) logEntries) (b .0) in
-    let f = both (eqb (length t) (trackerWords n)) (eqb (getD t 0 0) n) (d .0) in
+    let b = both (eqb (length t) (trackerWords n) && eqb (getD t countAt 0) n && leb (getD t lengthAt 0) logEntries) (lastsFit n t) e in
+    let d = both (eqb (length t) (trackerWords n) && eqb (getD t countAt 0) n) (leb (getD t lengthAt 0) logEntries) (b .0) in
+    let f = both (eqb (length t) (trackerWords n)) (eqb (getD t countAt 0) n) (d .0) in
     record {
       words = eqb-true (length t) (trackerWords n) (f .0);
-      count = eqb-true (getD t 0 0) n (f .1);
-      canonical = leb-true (getD t 1 0) logEntries (d .1);
-      lasts = λ r h. leb-true (getD t (lastAt r) 0) (getD t 1 0) (all-true n (λ r. leb (getD t (lastAt r) 0) (getD t 1 0)) (b .1) r h);
+      count = eqb-true (getD t countAt 0) n (f .1);
+      canonical = leb-true (getD t lengthAt 0) logEntries (d .1);
+      lasts = λ r h. leb-true (getD t (lastAt r) 0) (getD t lengthAt 0) (all-true n (λ r. leb (getD t (lastAt r) 0) (getD t lengthAt 0)) (b .1) r h);
     }
 
 -- and the other way round
 pub tracker-fits : (n : ℕ) (t : List ℕ) → Tracked n t → trackerFits n t ≡ true
 unfolding trackerFits lastsFit
 tracker-fits n t k =
-    rw (eq-eqb (length t) (trackerWords n) (k .words), eq-eqb (getD t 0 0) n (k .count), le-leb (getD t 1 0) logEntries (k .canonical))
-    (all-of n (λ r. leb (getD t (lastAt r) 0) (getD t 1 0)) (λ r h. le-leb (getD t (lastAt r) 0) (getD t 1 0) (k .lasts r h)))
+    rw (eq-eqb (length t) (trackerWords n) (k .words), eq-eqb (getD t countAt 0) n (k .count), le-leb (getD t lengthAt 0) logEntries (k .canonical))
+    (all-of n (λ r. leb (getD t (lastAt r) 0) (getD t lengthAt 0)) (λ r h. le-leb (getD t (lastAt r) 0) (getD t lengthAt 0) (k .lasts r h)))

@@ -7,7 +7,8 @@ use mathlib.Core.Path.{_≡_, ap}
 use Prim.Native.Nat.{ℕ, _+_, _<_}
 use lib.Dec.{eqb, lit<}
 use lib.ListN.{getD}
-use Rattle.properties_snapshots.specs.Cluster.{Entry, sameEntry, entryIn}
+use Rattle.properties_snapshots.specs.Below.{numbered, allBelow}
+use Rattle.properties_snapshots.specs.Cluster.{Entry, sameEntry, wordsOfEntry, entryIn}
 use Rattle.properties_snapshots.specs.Layout.{entryWords}
 use Rattle.basis.proofs.Laws.{both}
 
@@ -33,7 +34,7 @@ entries-same a b e =
       eq-eqb (a .body) (b .body) (ap (λ (x : Entry). x .body) e),
     )
 
--- an entry is its four words
+-- an entry is its words
 pub same-words : (w u : List ℕ) (a b : ℕ) → ((m : ℕ) → m < entryWords → getD w (a + m) 0 ≡ getD u (b + m) 0) → entryIn w a ≡ entryIn u b
 same-words w u a b h =
     let client : getD w a 0 ≡ getD u b 0 = simp add-zero at (h 0 (lit< tt)) in
@@ -41,3 +42,13 @@ same-words w u a b h =
     let id = h 2 (lit< tt) in
     let body = h 3 (lit< tt) in
     λ i. record { client = client i; request = request i; id = id i; body = body i }
+
+-- so two of them are equal if their words are, one by one; and its words are those that stand there
+pub words-compared : (a b : List ℕ) (x y : ℕ)
+    → allBelow entryWords (λ m. eqb (getD a (x + m) 0) (getD b (y + m) 0)) ≡ sameEntry (entryIn a x) (entryIn b y)
+unfolding sameEntry allBelow
+words-compared a b x y = rw (add-zero, add-zero)
+
+pub entry-words : (w : List ℕ) (a : ℕ) → numbered entryWords (λ m. getD w (a + m) 0) ≡ wordsOfEntry (entryIn w a)
+unfolding numbered
+entry-words w a = rw add-zero

@@ -2,11 +2,11 @@
 -- Assumes nothing.
 use mathlib.Core.Bool.{Bool, false, _&&_}
 use mathlib.Core.List.{List, [], _∷_, _++_}
-use Prim.Native.Nat.{ℕ, _+_}
+use Prim.Native.Nat.{ℕ}
 use lib.Dec.{eqb}
 use lib.ListN.{getD}
 use Rattle.properties_snapshots.specs.Below.{numbered}
-use Rattle.properties_snapshots.specs.Layout.{logEntries, recoveringAt, commitAt, opAt, sizeAt, entryAt, lastAt, canonicalAt, seenAt}
+use Rattle.properties_snapshots.specs.Layout.{clientAt, requestAt, idAt, bodyAt, logEntries, recoveringAt, commitAt, opAt, sizeAt, entryAt, lengthAt, lastAt, canonicalAt, seenAt}
 
 -- a log entry: the request of a client, and the op that it asks for
 pub record Entry : Type 0 where
@@ -68,7 +68,8 @@ seenId c r i = getD (getD (c .tracker .seen) r []) i 0
 
 -- the entry that stands from a place of the words on
 abbrev pub entryIn : List ℕ → ℕ → Entry
-entryIn w b = record { client = getD w b 0; request = getD w (b + 1) 0; id = getD w (b + 2) 0; body = getD w (b + 3) 0 }
+entryIn w b =
+    record { client = getD w (clientAt b) 0; request = getD w (requestAt b) 0; id = getD w (idAt b) 0; body = getD w (bodyAt b) 0 }
 
 -- plant r in the plant and log words: as many entries as its length says, whatever words lie past them
 unfoldable pub plantIn : List ℕ → List ℕ → ℕ → Plant
@@ -84,7 +85,7 @@ plantIn p l r =
 unfoldable pub trackerIn : ℕ → List ℕ → Tracker
 trackerIn n t =
     record {
-      canonical = numbered (getD t 1 0) (λ i. entryIn t (canonicalAt n i));
+      canonical = numbered (getD t lengthAt 0) (λ i. entryIn t (canonicalAt n i));
       lasts = numbered n (λ r. getD t (lastAt r) 0);
       seen = numbered n (λ r. numbered logEntries (λ i. getD t (seenAt n r i) 0));
     }

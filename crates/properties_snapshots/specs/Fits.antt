@@ -5,7 +5,7 @@ use Prim.Native.Nat.{ℕ, _*_}
 use lib.Dec.{leb, eqb}
 use lib.ListN.{length, getD}
 use Rattle.properties_snapshots.specs.Below.{allBelow}
-use Rattle.properties_snapshots.specs.Layout.{logEntries, logWords, plantWords, recoveringAt, sizeAt, lastAt, trackerWords}
+use Rattle.properties_snapshots.specs.Layout.{logEntries, logWords, plantWords, recoveringAt, sizeAt, countAt, lengthAt, lastAt, trackerWords}
 
 -- 60: 4n plant words, 512n log words, no recovering word over 1, no log over 128
 unfoldable pub plantsFit : ℕ → List ℕ → Bool
@@ -16,8 +16,8 @@ snapshotFits n p l = eqb (length p) (n * plantWords) && eqb (length l) (n * logW
 
 -- 61: the length and n, canonical length at most 128, no last commit over the canonical length
 unfoldable pub lastsFit : ℕ → List ℕ → Bool
-lastsFit n t = allBelow n (λ r. leb (getD t (lastAt r) 0) (getD t 1 0))
+lastsFit n t = allBelow n (λ r. leb (getD t (lastAt r) 0) (getD t lengthAt 0))
 
 unfoldable pub trackerFits : ℕ → List ℕ → Bool
 trackerFits n t =
-    eqb (length t) (trackerWords n) && eqb (getD t 0 0) n && leb (getD t 1 0) logEntries && lastsFit n t
+    eqb (length t) (trackerWords n) && eqb (getD t countAt 0) n && leb (getD t lengthAt 0) logEntries && lastsFit n t

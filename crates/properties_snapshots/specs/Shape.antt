@@ -4,12 +4,13 @@ use mathlib.Core.List.{List}
 use mathlib.Core.Path.{_≡_}
 use Prim.Native.Nat.{ℕ, _*_, _≤_, _<_}
 use lib.ListN.{length, getD}
-use Rattle.properties_snapshots.specs.Layout.{logEntries, logWords, plantWords, commitAt, sizeAt, lastAt, trackerWords}
+use Rattle.basis.specs.Basis.{fewest, most}
+use Rattle.properties_snapshots.specs.Layout.{logEntries, logWords, plantWords, commitAt, sizeAt, countAt, lengthAt, lastAt, trackerWords}
 
 -- n plants, and a log of at most 128 entries for each
 pub record Snapshot (n : ℕ) (p l : List ℕ) : Type 0 where
-  pub some : 3 ≤ n
-  pub few : n ≤ 15
+  pub some : fewest ≤ n
+  pub few : n ≤ most
   pub plants : length p ≡ n * plantWords
   pub logs : length l ≡ n * logWords
   pub sizes : (r : ℕ) → r < n → getD p (sizeAt r) 0 ≤ logEntries
@@ -17,9 +18,9 @@ pub record Snapshot (n : ℕ) (p l : List ℕ) : Type 0 where
 -- a tracker of n plants, none of which was verified past the canonical entries
 pub record Tracked (n : ℕ) (t : List ℕ) : Type 0 where
   pub words : length t ≡ trackerWords n
-  pub count : getD t 0 0 ≡ n
-  pub canonical : getD t 1 0 ≤ logEntries
-  pub lasts : (r : ℕ) → r < n → getD t (lastAt r) 0 ≤ getD t 1 0
+  pub count : getD t countAt 0 ≡ n
+  pub canonical : getD t lengthAt 0 ≤ logEntries
+  pub lasts : (r : ℕ) → r < n → getD t (lastAt r) 0 ≤ getD t lengthAt 0
 
 -- property 1 holds: commits lie within the logs, and none went back
 pub record Forward (n : ℕ) (p t : List ℕ) : Type 0 where

@@ -6,6 +6,10 @@ use Rattle.properties_verdicts.specs.Verdicts.{propertyNumber, refusalNumber}
 use Rattle.properties_verdicts.specs.declared.Answer.{Answer}
 use Rattle.properties_verdicts.specs.declared.Answer.the-variants.{Pass, Broken, Refused}
 
+-- the words of an answer
+abbrev pub answerWords : ℕ
+answerWords = 4
+
 abbrev pub answerNumber : Answer → ℕ
 answerNumber Pass = 0
 answerNumber (Broken p r i t) = 0

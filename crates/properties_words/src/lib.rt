@@ -4,7 +4,7 @@ use properties_verdicts::Answer;
 ghost use mathlib.Core.Path.{_≡_};
 ghost use lib.ListN.{length};
 ghost use Rattle.properties.specs.Calls.{freshAnswer, freshWords, rebootAnswer, rebootWords, tickAnswer, tickWords, endAnswer};
-ghost use Rattle.properties_words.specs.Told.{answerNumber, toldBy};
+ghost use Rattle.properties_words.specs.Told.{answerWords, answerNumber, toldBy};
 
 // The words of an answer.
 pub const ANSWER_WORDS: usize = 4;
@@ -13,14 +13,14 @@ pub const ANSWER_WORDS: usize = 4;
 fn seen(words: &[u64]) {}
 
 // The words lent for an answer are four.
-fn sized(told: &[u64; 4])
-    ensures { λ _. ⌜ length (now (told .entry)) ≡ 4 ⌝ }
+fn sized(told: &[u64; ANSWER_WORDS])
+    ensures { λ _. ⌜ length (now (told .entry)) ≡ answerWords ⌝ }
 {
     seen(told);
 }
 
 // What a call answers, written to its four words.
-fn tell(answer: Answer, told: &mut [u64; 4]) -> u64
+fn tell(answer: Answer, told: &mut [u64; ANSWER_WORDS]) -> u64
     ensures answer { λ r. ⌜ r ≡ answerNumber answer ⌝ }
     ensures told { λ _. ⌜ now (told .exit) ≡ toldBy answer (now (told .entry)) ⌝ }
 {
@@ -82,7 +82,13 @@ pub fn reboot(n: u64, id: u64, tracker: &mut [u64]) -> u64
 }
 
 // After a tick.
-pub fn tick(n: u64, plants: &[u64], logs: &[u64], tracker: &mut [u64], told: &mut [u64; 4]) -> u64
+pub fn tick(
+    n: u64,
+    plants: &[u64],
+    logs: &[u64],
+    tracker: &mut [u64],
+    told: &mut [u64; ANSWER_WORDS],
+) -> u64
     ensures answer { λ r. ⌜ r ≡ answerNumber (tickAnswer n (now (plants .entry)) (now (logs .entry)) (now (tracker .entry))) ⌝ }
     ensures tracker { λ _. ⌜ now (tracker .exit) ≡ tickWords n (now (plants .entry)) (now (logs .entry)) (now (tracker .entry)) ⌝ }
     ensures told { λ _. ⌜ now (told .exit) ≡ toldBy (tickAnswer n (now (plants .entry)) (now (logs .entry)) (now (tracker .entry))) (now (told .entry)) ⌝ }
@@ -99,7 +105,7 @@ pub fn end(
     values: &[i64],
     core: &[u64],
     tracker: &[u64],
-    told: &mut [u64; 4],
+    told: &mut [u64; ANSWER_WORDS],
 ) -> u64
     ensures answer { λ r. ⌜ r ≡ answerNumber (endAnswer n (now (plants .entry)) (now (logs .entry)) (now (values .entry)) (now (core .entry)) (now (tracker .entry))) ⌝ }
     ensures told { λ _. ⌜ now (told .exit) ≡ toldBy (endAnswer n (now (plants .entry)) (now (logs .entry)) (now (values .entry)) (now (core .entry)) (now (tracker .entry))) (now (told .entry)) ⌝ }

@@ -43,45 +43,30 @@ plants-holds : tie.Need-plants-holds Inv-indexes μ-indexes Inv-plants μ-plants
 unfolding overEntries
 plants-holds c = (omega arith, rw sub-zero)
 
-mul-number : tie.Need-mul-number Inv-indexes μ-indexes Inv-plants μ-plants
-mul-number c =
+commit-of-requires : tie.Need-commit-of-requires Inv-indexes μ-indexes Inv-plants μ-plants
+commit-of-requires c κs =
     let pre = c .before .before .before .before .before .pre in
-    omega (arith, pre .0 .0 .few)
+    (omega (arith, pre .0 .0 .few), omega (arith, pre .0 .0 .plants))
 
-add-number : tie.Need-add-number Inv-indexes μ-indexes Inv-plants μ-plants
-add-number c =
-    let pre = c .before .before .before .before .before .pre in
-    omega (arith, pre .0 .0 .few)
-
-number-requires : tie.Need-number-requires Inv-indexes μ-indexes Inv-plants μ-plants
-number-requires c κs =
-    let pre = c .before .before .before .before .before .pre in
-    omega (arith, pre .0 .0 .plants)
-
-add-number-2 : tie.Need-add-number-2 Inv-indexes μ-indexes Inv-plants μ-plants
-add-number-2 c =
+last-of-requires : tie.Need-last-of-requires Inv-indexes μ-indexes Inv-plants μ-plants
+last-of-requires c κs =
     let pre = c .before .before .before .before .before .before .pre in
-    omega (arith, pre .0 .0 .few)
-
-number-requires-2 : tie.Need-number-requires-2 Inv-indexes μ-indexes Inv-plants μ-plants
-number-requires-2 c κs =
-    let pre = c .before .before .before .before .before .before .pre in
-    omega (arith, pre .0 .1 .words)
+    (omega (arith, pre .0 .0 .few), omega (arith, pre .0 .1 .words))
 
 indexes-holds : tie.Need-indexes-holds Inv-indexes μ-indexes Inv-plants μ-plants
 indexes-holds c =
     let pre = c .before .before .before .before .before .before .before .pre in
-    let the-number = c .before .number in
+    let the-commit = c .before .commit-of in
     let a = c .before .before .before .before .before .before .before .args in
     let h = c .before .before .plants-test .taken in
     let r = c .before .before .before .plants .r in (
-      omega (arith, the-number .ensures, c .number2 .ensures, pre .0 .2 .onward r h),
+      omega (arith, the-commit .ensures, c .last-of .ensures, pre .0 .2 .onward r h),
       rw (
         last-held (a .n) (a .plants .now) (a .logs .now) (a .tracker .now) r h,
         commit-held (a .n) (a .plants .now) (a .logs .now) (a .tracker .now)
             r h,
-        the-number .ensures,
-        c .number2 .ensures,
+        the-commit .ensures,
+        c .last-of .ensures,
       ),
     )
 
@@ -89,17 +74,17 @@ entry-holds-requires : tie.Need-entry-holds-requires Inv-indexes μ-indexes Inv-
 entry-holds-requires c κs =
     let pre = c .before .before .before .before .before .before .before .before .before .pre in
     let the-plants-test = c .before .before .before .before .plants-test in
-    (pre .0, (pre .1, (the-plants-test .taken, omega (arith, c .before .before .before .number .ensures, c .indexes-test .taken))))
+    (pre .0, (pre .1, (the-plants-test .taken, omega (arith, c .before .before .before .commit-of .ensures, c .indexes-test .taken))))
 
 add-i : tie.Need-add-i Inv-indexes μ-indexes Inv-plants μ-plants
 add-i c =
     let pre = c .before .before .before .before .before .before .before .before .before .before .before .pre in
     let the-plants = c .before .before .before .before .before .before .before .plants in
     let the-plants-test = c .before .before .before .before .before .before .plants-test in
-    let the-number = c .before .before .before .before .before .number in
+    let the-commit = c .before .before .before .before .before .commit-of in
     omega (
       arith,
-      the-number .ensures,
+      the-commit .ensures,
       c .before .before .indexes-test .taken,
       pre .0 .2 .within (the-plants .r) (the-plants-test .taken),
       pre .0 .0 .sizes (the-plants .r) (the-plants-test .taken),
@@ -111,14 +96,14 @@ indexes-less c = omega (arith, c .before .before .indexes-test .taken)
 indexes-again : tie.Need-indexes-again Inv-indexes μ-indexes Inv-plants μ-plants
 indexes-again c =
     let the-plants = c .before .before .before .before .before .before .before .plants in
-    let the-number = c .before .before .before .before .before .number in
+    let the-commit = c .before .before .before .before .before .commit-of in
     let the-indexes = c .before .before .before .indexes in
     let the-indexes-test = c .before .before .indexes-test in
     let a = c .before .before .before .before .before .before .before .before .before .before .before .args in
     let k = clusterIn (a .n) (a .plants .now) (a .logs .now) (a .tracker .now) in (
       omega (arith, the-indexes-test .taken),
       the-indexes .inv .1
-          ∙ first-on (at (a .property) k (the-plants .r)) (the-indexes .i) (the-number .result) (the-indexes-test .taken)
+          ∙ first-on (at (a .property) k (the-plants .r)) (the-indexes .i) (the-commit .result) (the-indexes-test .taken)
           (rw (sym (c .before .entry-holds .ensures) ∙ not-false _ (c .if1 .left))),
     )
 
@@ -143,7 +128,7 @@ plants-again c =
       omega (arith, the-plants-test .taken),
       the-plants .inv .1
           ∙ first-on (of-plant (a .property) k) (the-plants .r) (a .n) (the-plants-test .taken)
-          (the-indexes .inv .1 ∙ first-end (at (a .property) k (the-plants .r)) (the-indexes .i) (c .before .before .before .number .result)
+          (the-indexes .inv .1 ∙ first-end (at (a .property) k (the-plants .r)) (the-indexes .i) (c .before .before .before .commit-of .result)
           (c .indexes-test .left)),
     )
 
@@ -188,11 +173,8 @@ entries-spec =
     Inv-plants
     μ-plants
     plants-holds
-    mul-number
-    add-number
-    number-requires
-    add-number-2
-    number-requires-2
+    commit-of-requires
+    last-of-requires
     indexes-holds
     entry-holds-requires
     add-i

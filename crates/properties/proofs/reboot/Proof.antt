@@ -4,7 +4,7 @@ use borrow.Author.Tests.{not-true, not-false, lt-ltb, le-ltb}
 use native.Mathlib.Omega.{arith}
 use mathlib.Core.Bool.{true, false}
 use mathlib.Core.List.{List}
-use mathlib.Core.Path.{_≡_, sym, _∙_}
+use mathlib.Core.Path.{_≡_, sym, ap, _∙_}
 use Prim.Native.Nat.{ℕ, _≤_, _<_}
 use lib.ListN.{set}
 use Rattle.basis.specs.Basis.{plantCount}
@@ -64,8 +64,8 @@ returns-3 c =
     untracked (args .n) (args .id) (args .tracker .now) (sym (the-plant-count .ensures) ∙ not-false _ (if1 .left))
     (c .before .before .before .if2 .left) (sym (c .before .tracker-fits .ensures) ∙ not-true _ (c .if3 .taken))
 
-add-tracker : tie.Need-add-tracker
-add-tracker c =
+last-at-requires : tie.Need-last-at-requires
+last-at-requires c κs =
     let args = c .before .before .before .before .before .before .before .args in
     let the-plant-count = c .before .before .before .before .before .plant-count in
     let if1 = c .before .before .before .before .if1 in
@@ -73,26 +73,28 @@ add-tracker c =
 
 mul-tracker : tie.Need-mul-tracker
 mul-tracker c =
-    let args = c .before .before .before .before .before .before .before .args in
-    let the-plant-count = c .before .before .before .before .before .plant-count in
-    let if1 = c .before .before .before .before .if1 in
-    omega (arith, between (args .n) (sym (the-plant-count .ensures) ∙ not-false _ (if1 .left)) .1)
+    let args = c .before .before .before .before .before .before .before .before .args in
+    let the-plant-count = c .before .before .before .before .before .before .plant-count in
+    let if1 = c .before .before .before .before .before .if1 in
+    omega (arith, c .last-at .ensures, between (args .n) (sym (the-plant-count .ensures) ∙ not-false _ (if1 .left)) .1)
 
 slice-write-tracker : tie.Need-slice-write-tracker
 slice-write-tracker c =
-    let args = c .before .before .before .before .before .before .before .args in
-    omega (arith, tracker-known (args .n) (args .tracker .now) (sym (c .before .tracker-fits .ensures) ∙ not-false _ (c .if3 .left)) .words)
+    let args = c .before .before .before .before .before .before .before .before .args in
+    let fits = sym (c .before .before .tracker-fits .ensures) ∙ not-false _ (c .before .if3 .left) in
+    omega (arith, c .last-at .ensures, tracker-known (args .n) (args .tracker .now) fits .words)
 
 same-length-2 : tie.Need-same-length-2
 same-length-2 c = search needs
 
 returns-4 : tie.Need-returns-4
 returns-4 c =
-    let args = c .before .before .before .before .before .before .before .args in
-    let the-plant-count = c .before .before .before .before .before .plant-count in
-    let if1 = c .before .before .before .before .if1 in
-    restarted (args .n) (args .id) (args .tracker .now) (sym (the-plant-count .ensures) ∙ not-false _ (if1 .left))
-    (c .before .before .before .if2 .left) (sym (c .before .tracker-fits .ensures) ∙ not-false _ (c .if3 .left))
+    let args = c .before .before .before .before .before .before .before .before .args in
+    let the-plant-count = c .before .before .before .before .before .before .plant-count in
+    let if1 = c .before .before .before .before .before .if1 in
+    let r = restarted (args .n) (args .id) (args .tracker .now) (sym (the-plant-count .ensures) ∙ not-false _ (if1 .left))
+    (c .before .before .before .before .if2 .left) (sym (c .before .before .tracker-fits .ensures) ∙ not-false _ (c .before .if3 .left)) in
+    (r .0, ap (λ (k : ℕ). set (args .tracker .now) k 0) (c .last-at .ensures) ∙ r .1)
 
 pub reboot-spec : {M : Type 1} → statement M
 reboot-spec =
@@ -104,7 +106,7 @@ reboot-spec =
     tracker-fits-requires
     same-length
     returns-3
-    add-tracker
+    last-at-requires
     mul-tracker
     slice-write-tracker
     same-length-2

@@ -4,11 +4,11 @@ use borrow.Author.Needs.{needs}
 use borrow.Author.Tests.{lt-ltb, le-ltb}
 use native.Mathlib.Omega.{arith}
 use mathlib.Core.List.{List}
-use mathlib.Core.Path.{_≡_, _∙_}
+use mathlib.Core.Path.{_≡_, ap, _∙_}
 use Prim.Native.Nat.{ℕ, _≤_, _<_}
 use lib.ListN.{getD}
 use Rattle.properties_snapshots.specs.Cluster.{sameEntry, entryIn, clusterIn}
-use Rattle.properties_snapshots.specs.Layout.{logEntries, commitAt, entryAt, canonicalAt}
+use Rattle.properties_snapshots.specs.Layout.{logEntries, commitAt, entryAt, lengthAt, canonicalAt}
 use Rattle.properties_snapshots.specs.Shape.{Snapshot, Forward}
 use Rattle.properties_snapshots.proofs.Held.{canonical-long, canonical-held, entry-held}
 use Rattle.properties_agreement.specs.Agreement.{committer, canonicalEntry, agrees}
@@ -20,16 +20,16 @@ module _ (n : ℕ) (p l t : List ℕ) (s : Snapshot n p l) (f : Forward n p t) (
   within : i < logEntries
   within = omega (arith, s .sizes r h, f .within r h)
 
-  remembered : i < getD t 1 0 → sameEntry (entryIn t (canonicalAt n i)) (entryIn l (entryAt r i)) ≡ agrees (clusterIn n p l t) r i
+  remembered : i < getD t lengthAt 0 → sameEntry (entryIn t (canonicalAt n i)) (entryIn l (entryAt r i)) ≡ agrees (clusterIn n p l t) r i
   unfolding agrees canonicalEntry
   remembered g =
-      rw (canonical-long n p l t, lt-ltb i (getD t 1 0) g, canonical-held n p l t i g, entry-held n p l t r h i (omega (arith, f .within r h)))
+      rw (canonical-long n p l t, lt-ltb i (getD t lengthAt 0) g, canonical-held n p l t i g, entry-held n p l t r h i (omega (arith, f .within r h)))
 
-  new : getD t 1 0 ≤ i → (q : ℕ) → q ≡ committer (clusterIn n p l t) i → sameEntry (entryIn l (entryAt q i)) (entryIn l (entryAt r i)) ≡ agrees
+  new : getD t lengthAt 0 ≤ i → (q : ℕ) → q ≡ committer (clusterIn n p l t) i → sameEntry (entryIn l (entryAt q i)) (entryIn l (entryAt r i)) ≡ agrees
       (clusterIn n p l t) r i
   unfolding agrees canonicalEntry
   new g q e =
-      rw (canonical-long n p l t, le-ltb i (getD t 1 0) g, committed-entry n p l t s f i r h k, entry-held n p l t r h i (omega (arith, f .within r h)), e)
+      rw (canonical-long n p l t, le-ltb i (getD t lengthAt 0) g, committed-entry n p l t s f i r h k, entry-held n p l t r h i (omega (arith, f .within r h)), e)
 
   plant-of : (q : ℕ) → q ≡ committer (clusterIn n p l t) i → q < n
   plant-of q e = omega (arith, committer-below (clusterIn n p l t) i (omega (arith, s .some)))
@@ -37,112 +37,47 @@ module _ (n : ℕ) (p l t : List ℕ) (s : Snapshot n p l) (f : Forward n p t) (
 number-requires : tie.Need-number-requires
 number-requires c κs = omega (arith, c .before .before .before .pre .0 .1 .words)
 
-add-same-entry : tie.Need-add-same-entry
-add-same-entry c = search needs
+canonical-at-requires : tie.Need-canonical-at-requires
+canonical-at-requires c κs = search needs
 
-mul-same-entry : tie.Need-mul-same-entry
-mul-same-entry c = search needs
-
-add-same-entry-2 : tie.Need-add-same-entry-2
-add-same-entry-2 c = search needs
-
-mul-same-entry-2 : tie.Need-mul-same-entry-2
-mul-same-entry-2 c = search needs
-
-mul-same-entry-3 : tie.Need-mul-same-entry-3
-mul-same-entry-3 c = search needs
-
-add-same-entry-3 : tie.Need-add-same-entry-3
-add-same-entry-3 c = search needs
+entry-at-requires : tie.Need-entry-at-requires
+entry-at-requires c κs = search needs
 
 same-entry-requires : tie.Need-same-entry-requires
 same-entry-requires c κs = search needs
 
 returns : tie.Need-returns
 returns c =
-    let pre = c .before .before .before .before .before .before .pre in
-    let a = c .before .before .before .before .before .before .args in
+    let pre = c .before .before .before .before .before .before .before .before .pre in
+    let a = c .before .before .before .before .before .before .before .before .args in
+    let t = a .tracker .now in
+    let l = a .logs .now in
     c .same-entry .ensures
-    ∙ remembered (a .n) (a .plants .now) (a .logs .now) (a .tracker .now) (pre .0 .0) (pre .0 .2) (a .r) (a .i) (pre .1 .0) (pre .1 .1)
-    (omega (arith, c .before .before .number .ensures, c .before .if1 .taken))
+    ∙ (ap (λ (k : ℕ). sameEntry (entryIn t k) (entryIn l (c .before .entry-at .result))) (c .before .before .canonical-at .ensures)
+    ∙ (ap (λ (k : ℕ). sameEntry (entryIn t (canonicalAt (a .n) (a .i))) (entryIn l k)) (c .before .entry-at .ensures)
+    ∙ remembered (a .n) (a .plants .now) l t (pre .0 .0) (pre .0 .2) (a .r) (a .i) (pre .1 .0) (pre .1 .1)
+    (omega (arith, c .before .before .before .before .number .ensures, c .before .before .before .if1 .taken))))
 
 committer-requires : tie.Need-committer-requires
 committer-requires c κs = search needs
 
-mul-same-entry-4 : tie.Need-mul-same-entry-4
-mul-same-entry-4 c =
-    let args = c .before .before .before .before .before .before .args in
+same-logged-requires : tie.Need-same-logged-requires
+same-logged-requires c κs =
+    let a = c .before .before .before .before .before .before .args in
     let pre = c .before .before .before .before .before .before .pre in
-    omega (
-      arith,
-      plant-of (args .n) (args .plants .now) (args .logs .now) (args .tracker .now) (pre .0 .0) (pre .0 .2) (args .r) (args .i)
-          (pre .1 .0) (pre .1 .1) (c .committer .result) (c .committer .ensures (args .logs .now) (args .tracker .now)),
-      pre .0 .0 .few,
+    let q = plant-of (a .n) (a .plants .now) (a .logs .now) (a .tracker .now) (pre .0 .0) (pre .0 .2) (a .r) (a .i) (pre .1 .0) (pre .1 .1)
+    (c .committer .result) (c .committer .ensures (a .logs .now) (a .tracker .now)) in
+    let w = within (a .n) (a .plants .now) (a .logs .now) (a .tracker .now) (pre .0 .0) (pre .0 .2) (a .r) (a .i) (pre .1 .0) (pre .1 .1) in (
+      (omega (arith, pre .0 .0 .few), omega (arith, pre .0 .0 .few, pre .1 .0), w),
+      (omega (arith, pre .0 .0 .logs), omega (arith, pre .0 .0 .logs, pre .1 .0)),
     )
-
-mul-same-entry-5 : tie.Need-mul-same-entry-5
-mul-same-entry-5 c =
-    let args = c .before .before .before .before .before .before .args in
-    let pre = c .before .before .before .before .before .before .pre in
-    omega (
-      arith,
-      within (args .n) (args .plants .now) (args .logs .now) (args .tracker .now) (pre .0 .0) (pre .0 .2) (args .r) (args .i) (pre .1 .0)
-          (pre .1 .1),
-    )
-
-add-same-entry-4 : tie.Need-add-same-entry-4
-add-same-entry-4 c =
-    let args = c .before .before .before .before .before .before .args in
-    let pre = c .before .before .before .before .before .before .pre in
-    omega (
-      arith,
-      plant-of (args .n) (args .plants .now) (args .logs .now) (args .tracker .now) (pre .0 .0) (pre .0 .2) (args .r) (args .i)
-          (pre .1 .0) (pre .1 .1) (c .committer .result) (c .committer .ensures (args .logs .now) (args .tracker .now)),
-      within (args .n)
-          (args .plants .now) (args .logs .now) (args .tracker .now) (pre .0 .0) (pre .0 .2) (args .r) (args .i) (pre .1 .0) (pre .1 .1),
-      pre .0 .0 .few,
-    )
-
-mul-same-entry-6 : tie.Need-mul-same-entry-6
-mul-same-entry-6 c = search needs
-
-mul-same-entry-7 : tie.Need-mul-same-entry-7
-mul-same-entry-7 c =
-    let args = c .before .before .before .before .before .before .args in
-    let pre = c .before .before .before .before .before .before .pre in
-    omega (
-      arith,
-      within (args .n) (args .plants .now) (args .logs .now) (args .tracker .now) (pre .0 .0) (pre .0 .2) (args .r) (args .i) (pre .1 .0)
-          (pre .1 .1),
-    )
-
-add-same-entry-5 : tie.Need-add-same-entry-5
-add-same-entry-5 c =
-    let args = c .before .before .before .before .before .before .args in
-    let pre = c .before .before .before .before .before .before .pre in
-    omega (
-      arith,
-      within (args .n) (args .plants .now) (args .logs .now) (args .tracker .now) (pre .0 .0) (pre .0 .2) (args .r) (args .i) (pre .1 .0)
-          (pre .1 .1),
-      pre .0 .0 .few,
-      pre .1 .0,
-    )
-
-same-entry-requires-2 : tie.Need-same-entry-requires-2
-same-entry-requires-2 c κs =
-    let args = c .before .before .before .before .before .before .args in
-    let pre = c .before .before .before .before .before .before .pre in
-    let q = plant-of (args .n) (args .plants .now) (args .logs .now) (args .tracker .now) (pre .0 .0) (pre .0 .2) (args .r) (args .i) (pre .1 .0)
-    (pre .1 .1) (c .committer .result) (c .committer .ensures (args .logs .now) (args .tracker .now)) in
-    let w = within (args .n) (args .plants .now) (args .logs .now) (args .tracker .now) (pre .0 .0) (pre .0 .2) (args .r) (args .i) (pre .1 .0) (pre .1 .1) in
-    (omega (arith, pre .0 .0 .logs), omega (arith, pre .0 .0 .logs, pre .1 .0))
 
 returns-2 : tie.Need-returns-2
 returns-2 c =
     let pre = c .before .before .before .before .before .before .before .pre in
     let the-committer = c .before .committer in
     let a = c .before .before .before .before .before .before .before .args in
-    c .same-entry2 .ensures
+    c .same-logged .ensures
     ∙ new (a .n) (a .plants .now) (a .logs .now) (a .tracker .now) (pre .0 .0) (pre .0 .2) (a .r) (a .i) (pre .1 .0) (pre .1 .1)
     (omega (arith, c .before .before .before .number .ensures, c .before .before .if1 .left)) (the-committer .result)
     (the-committer .ensures (a .logs .now) (a .tracker .now))
@@ -152,20 +87,10 @@ agrees-spec =
     tie.close
     (tie.spec
     number-requires
-    add-same-entry
-    mul-same-entry
-    add-same-entry-2
-    mul-same-entry-2
-    mul-same-entry-3
-    add-same-entry-3
+    canonical-at-requires
+    entry-at-requires
     same-entry-requires
     returns
     committer-requires
-    mul-same-entry-4
-    mul-same-entry-5
-    add-same-entry-4
-    mul-same-entry-6
-    mul-same-entry-7
-    add-same-entry-5
-    same-entry-requires-2
+    same-logged-requires
     returns-2)

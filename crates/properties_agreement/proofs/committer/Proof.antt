@@ -48,14 +48,8 @@ loop-holds c = (omega arith, λ l t. rw sub-zero)
 sub-loop : tie.Need-sub-loop Inv-loop μ-loop
 sub-loop c = omega arith
 
-mul-number : tie.Need-mul-number Inv-loop μ-loop
-mul-number c = omega arith
-
-add-number : tie.Need-add-number Inv-loop μ-loop
-add-number c = omega arith
-
-number-requires : tie.Need-number-requires Inv-loop μ-loop
-number-requires c κs = search needs
+commit-of-requires : tie.Need-commit-of-requires Inv-loop μ-loop
+commit-of-requires c κs = search needs
 
 returns : tie.Need-returns Inv-loop μ-loop
 returns c =
@@ -63,7 +57,7 @@ returns c =
     λ l t.
     let a = c .before .before .before .before .before .args in
     sym (loop .inv .1 l t ∙ found (a .n) (a .plants .now) l t (a .i) (loop .q) (c .before .before .loop-test .taken)
-    (omega (arith, c .before .number .ensures)))
+    (omega (arith, c .before .commit-of .ensures)))
 
 add-q : tie.Need-add-q Inv-loop μ-loop
 add-q c = omega arith
@@ -77,7 +71,7 @@ loop-again c =
     let a = c .before .before .before .before .before .args in (
       omega arith,
       λ l t. loop .inv .1 l t ∙ passed (a .n) (a .plants .now) l t (a .i) (loop .q) (c .before .before .loop-test .taken)
-          (omega (arith, c .before .number .ensures)),
+          (omega (arith, c .before .commit-of .ensures)),
     )
 
 returns-2 : tie.Need-returns-2 Inv-loop μ-loop
@@ -95,9 +89,7 @@ committer-spec =
     μ-loop
     loop-holds
     sub-loop
-    mul-number
-    add-number
-    number-requires
+    commit-of-requires
     returns
     add-q
     loop-less

@@ -49,38 +49,17 @@ abbrev μ-loop : tie.MeasureT-loop
 loop-holds : tie.Need-loop-holds Inv-loop μ-loop
 loop-holds c = (omega arith, λ l. rw sub-zero)
 
-mul-number : tie.Need-mul-number Inv-loop μ-loop
-mul-number c = omega arith
+commit-of-requires : tie.Need-commit-of-requires Inv-loop μ-loop
+commit-of-requires c κs = search needs
 
-add-number : tie.Need-add-number Inv-loop μ-loop
-add-number c = omega arith
+op-of-requires : tie.Need-op-of-requires Inv-loop μ-loop
+op-of-requires c κs = search needs
 
-number-requires : tie.Need-number-requires Inv-loop μ-loop
-number-requires c κs = search needs
+size-of-requires : tie.Need-size-of-requires Inv-loop μ-loop
+size-of-requires c κs = search needs
 
-mul-number-2 : tie.Need-mul-number-2 Inv-loop μ-loop
-mul-number-2 c = omega arith
-
-add-number-2 : tie.Need-add-number-2 Inv-loop μ-loop
-add-number-2 c = omega arith
-
-number-requires-2 : tie.Need-number-requires-2 Inv-loop μ-loop
-number-requires-2 c κs = search needs
-
-mul-number-3 : tie.Need-mul-number-3 Inv-loop μ-loop
-mul-number-3 c = omega arith
-
-add-number-3 : tie.Need-add-number-3 Inv-loop μ-loop
-add-number-3 c = omega arith
-
-number-requires-3 : tie.Need-number-requires-3 Inv-loop μ-loop
-number-requires-3 c κs = search needs
-
-add-number-4 : tie.Need-add-number-4 Inv-loop μ-loop
-add-number-4 c = omega arith
-
-number-requires-4 : tie.Need-number-requires-4 Inv-loop μ-loop
-number-requires-4 c κs = search needs
+last-of-requires : tie.Need-last-of-requires Inv-loop μ-loop
+last-of-requires c κs = search needs
 
 commit-number-requires : tie.Need-commit-number-requires Inv-loop μ-loop
 commit-number-requires c κs = search needs
@@ -91,15 +70,15 @@ enum-told c = omega arith
 returns : tie.Need-returns Inv-loop μ-loop
 returns c =
     let loop-test = c .before .before .before .before .before .before .loop-test in
-    let the-number = c .before .before .before .before .before .number in
-    let the-number2 = c .before .before .before .before .number2 in
+    let commit = c .before .before .before .before .before .commit-of in
+    let op = c .before .before .before .before .op-of in
     let the-commit-number = c .before .commit-number in
     λ l.
     let a = c .before .before .before .before .before .before .before .before .before .before .args in
     let i = c .before .before .before .before .before .before .before .loop in
     stopped (a .n) (a .plants .now) l (a .tracker .now) (i .r) (the-commit-number .result) (loop-test .taken)
-    (in-words (a .n) (a .plants .now) l (a .tracker .now) (i .r) (loop-test .taken) _ _ _ _ (the-number .ensures) (the-number2 .ensures)
-    (c .before .before .before .number3 .ensures) (c .before .before .number4 .ensures)
+    (in-words (a .n) (a .plants .now) l (a .tracker .now) (i .r) (loop-test .taken) _ _ _ _ (commit .ensures) (op .ensures)
+    (c .before .before .before .size-of .ensures) (c .before .before .last-of .ensures)
     ∙ sym (the-commit-number .ensures))
     (no-pass (the-commit-number .result) (c .match .keys2))
     (i .inv .1 l)
@@ -113,17 +92,17 @@ loop-less c = omega arith
 loop-again : tie.Need-loop-again Inv-loop μ-loop
 loop-again c =
     let loop-test = c .before .before .before .before .before .before .before .loop-test in
-    let the-number = c .before .before .before .before .before .before .number in
-    let the-number2 = c .before .before .before .before .before .number2 in
-    let the-number3 = c .before .before .before .before .number3 in
+    let commit = c .before .before .before .before .before .before .commit-of in
+    let op = c .before .before .before .before .before .op-of in
+    let size = c .before .before .before .before .size-of in
     let a = c .before .before .before .before .before .before .before .before .before .before .before .args in
     let i = c .before .before .before .before .before .before .before .before .loop in (
       omega arith,
       λ l.
           i .inv .1 l
           ∙ first-on (tests (a .n) (a .plants .now) l (a .tracker .now)) (i .r) (a .n) (loop-test .taken)
-          (in-words (a .n) (a .plants .now) l (a .tracker .now) (i .r) (loop-test .taken) _ _ _ _ (the-number .ensures) (the-number2 .ensures)
-          (the-number3 .ensures) (c .before .before .before .number4 .ensures)
+          (in-words (a .n) (a .plants .now) l (a .tracker .now) (i .r) (loop-test .taken) _ _ _ _ (commit .ensures) (op .ensures)
+          (size .ensures) (c .before .before .before .last-of .ensures)
           ∙ (sym (c .before .before .commit-number .ensures) ∙ c .enum-told .given .1)),
     )
 
@@ -140,17 +119,10 @@ commit-numbers-spec =
     Inv-loop
     μ-loop
     loop-holds
-    mul-number
-    add-number
-    number-requires
-    mul-number-2
-    add-number-2
-    number-requires-2
-    mul-number-3
-    add-number-3
-    number-requires-3
-    add-number-4
-    number-requires-4
+    commit-of-requires
+    op-of-requires
+    size-of-requires
+    last-of-requires
     commit-number-requires
     enum-told
     returns

@@ -86,23 +86,11 @@ module _ (n : ℕ) (p l t : List ℕ) (values : List ℤ) (reference id : ℕ) (
         all-equal : sameValue (getD values id (pos 0)) (getD values reference (pos 0)) ≡ true → Pass ≡ answer
         all-equal v = rw (eq-eqb (getD p (commitAt id) 0) (getD p (sizeAt id) 0) k, v) at (the-rest g)
 
-mul-number : tie.Need-mul-number
-mul-number c = search needs
+size-of-requires : tie.Need-size-of-requires
+size-of-requires c κs = search needs
 
-add-number : tie.Need-add-number
-add-number c = search needs
-
-number-requires : tie.Need-number-requires
-number-requires c κs = search needs
-
-mul-number-2 : tie.Need-mul-number-2
-mul-number-2 c = search needs
-
-add-number-2 : tie.Need-add-number-2
-add-number-2 c = search needs
-
-number-requires-2 : tie.Need-number-requires-2
-number-requires-2 c κs = search needs
+size-of-requires-2 : tie.Need-size-of-requires-2
+size-of-requires-2 c κs = search needs
 
 broken-requires : tie.Need-broken-requires
 broken-requires c κs = search needs
@@ -112,13 +100,13 @@ returns c =
     let args = c .before .before .before .before .before .before .args in
     let pre = c .before .before .before .before .before .before .pre in
     λ t. c .broken .ensures ∙ other-length (args .n) (args .plants .now) (args .logs .now) t (args .values .now) (args .reference) (args .id) (pre .2)
-    (pre .3) (λ e. c .before .if1 .taken (c .before .before .before .number .ensures ∙ (e ∙ sym (c .before .before .number2 .ensures))))
+    (pre .3) (λ e. c .before .if1 .taken (c .before .before .before .size-of .ensures ∙ (e ∙ sym (c .before .before .size-of2 .ensures))))
 
 same-logs-requires : tie.Need-same-logs-requires
 same-logs-requires c κs =
     let args = c .before .before .before .before .before .args in
     let pre = c .before .before .before .before .before .pre in
-    (pre .0 .few, pre .0 .logs, pre .2, pre .3, omega (arith, c .before .before .number .ensures, pre .0 .sizes (args .id) (pre .3)))
+    (pre .0 .few, pre .0 .logs, pre .2, pre .3, omega (arith, c .before .before .size-of .ensures, pre .0 .sizes (args .id) (pre .3)))
 
 enum-told : tie.Need-enum-told
 enum-told c = search needs
@@ -127,21 +115,15 @@ returns-2 : tie.Need-returns-2
 returns-2 c =
     let args = c .before .before .before .before .before .before .before .args in
     let pre = c .before .before .before .before .before .before .before .pre in
-    let the-number = c .before .before .before .before .number in
+    let the-size = c .before .before .before .before .size-of in
     let the-same-logs = c .before .same-logs in
     λ t. other-entry (args .n) (args .plants .now) (args .logs .now) t (args .values .now) (args .reference) (args .id) (pre .2) (pre .3)
-    (sym (the-number .ensures) ∙ (c .before .before .if1 .left ∙ c .before .before .before .number2 .ensures)) (the-same-logs .result)
-    (the-same-logs .ensures ∙ ap (firstOf (in-words (args .logs .now) (args .reference) (args .id)) 0) (the-number .ensures))
+    (sym (the-size .ensures) ∙ (c .before .before .if1 .left ∙ c .before .before .before .size-of2 .ensures)) (the-same-logs .result)
+    (the-same-logs .ensures ∙ ap (firstOf (in-words (args .logs .now) (args .reference) (args .id)) 0) (the-size .ensures))
     (no-pass (the-same-logs .result) (c .match .keys2))
 
-mul-number-3 : tie.Need-mul-number-3
-mul-number-3 c = search needs
-
-add-number-3 : tie.Need-add-number-3
-add-number-3 c = search needs
-
-number-requires-3 : tie.Need-number-requires-3
-number-requires-3 c κs = search needs
+commit-of-requires : tie.Need-commit-of-requires
+commit-of-requires c κs = search needs
 
 broken-requires-2 : tie.Need-broken-requires-2
 broken-requires-2 c κs = search needs
@@ -150,14 +132,14 @@ returns-3 : tie.Need-returns-3
 returns-3 c =
     let args = c .before .before .before .before .before .before .before .before .before .before .before .args in
     let pre = c .before .before .before .before .before .before .before .before .before .before .before .pre in
-    let the-number = c .before .before .before .before .before .before .before .before .number in
-    let the-number2 = c .before .before .before .before .before .before .before .number2 in
+    let the-size = c .before .before .before .before .before .before .before .before .size-of in
+    let other-size = c .before .before .before .before .before .before .before .size-of2 in
     let if1 = c .before .before .before .before .before .before .if1 in
     let the-same-logs = c .before .before .before .before .before .same-logs in
     λ t. c .broken2 .ensures ∙ uncommitted (args .n) (args .plants .now) (args .logs .now) t (args .values .now) (args .reference) (args .id) (pre .2)
-    (pre .3) (sym (the-number .ensures) ∙ (if1 .left ∙ the-number2 .ensures)) (sym
-    (the-same-logs .ensures ∙ ap (firstOf (in-words (args .logs .now) (args .reference) (args .id)) 0) (the-number .ensures)) ∙
-    c .before .before .before .enum-told .given .1) (λ e. c .before .if2 .taken (c .before .before .number3 .ensures ∙ (e ∙ sym (the-number .ensures))))
+    (pre .3) (sym (the-size .ensures) ∙ (if1 .left ∙ other-size .ensures)) (sym
+    (the-same-logs .ensures ∙ ap (firstOf (in-words (args .logs .now) (args .reference) (args .id)) 0) (the-size .ensures)) ∙
+    c .before .before .before .enum-told .given .1) (λ e. c .before .if2 .taken (c .before .before .commit-of .ensures ∙ (e ∙ sym (the-size .ensures))))
 
 mul-same-value : tie.Need-mul-same-value
 mul-same-value c = search needs
@@ -181,19 +163,19 @@ returns-4 : tie.Need-returns-4
 returns-4 c =
     let args = c .before .before .before .before .before .before .before .before .before .before .before .before .before .before .before .args in
     let pre = c .before .before .before .before .before .before .before .before .before .before .before .before .before .before .before .pre in
-    let the-number = c .before .before .before .before .before .before .before .before .before .before .before .before .number in
-    let the-number2 = c .before .before .before .before .before .before .before .before .before .before .before .number2 in
+    let the-size = c .before .before .before .before .before .before .before .before .before .before .before .before .size-of in
+    let other-size = c .before .before .before .before .before .before .before .before .before .before .before .size-of2 in
     let if1 = c .before .before .before .before .before .before .before .before .before .before .if1 in
     let the-same-logs = c .before .before .before .before .before .before .before .before .before .same-logs in
     let the-enum-told = c .before .before .before .before .before .before .before .enum-told in
-    let the-number3 = c .before .before .before .before .before .before .number3 in
+    let the-commit = c .before .before .before .before .before .before .commit-of in
     let if2 = c .before .before .before .before .before .if2 in
     let the-same-value-arg = c .before .before .before .before .same-value-arg in
     let the-same-value = c .before .before .same-value in
     λ t. c .broken3 .ensures ∙ other-value (args .n) (args .plants .now) (args .logs .now) t (args .values .now) (args .reference) (args .id) (pre .2)
-    (pre .3) (sym (the-number .ensures) ∙ (if1 .left ∙ the-number2 .ensures)) (sym
-    (the-same-logs .ensures ∙ ap (firstOf (in-words (args .logs .now) (args .reference) (args .id)) 0) (the-number .ensures)) ∙
-    the-enum-told .given .1) (sym (the-number3 .ensures) ∙ (if2 .left ∙ the-number .ensures))
+    (pre .3) (sym (the-size .ensures) ∙ (if1 .left ∙ other-size .ensures)) (sym
+    (the-same-logs .ensures ∙ ap (firstOf (in-words (args .logs .now) (args .reference) (args .id)) 0) (the-size .ensures)) ∙
+    the-enum-told .given .1) (sym (the-commit .ensures) ∙ (if2 .left ∙ the-size .ensures))
     (as-read (getD (args .values .now) (args .id) (pos 0)) (getD (args .values .now) (args .reference) (pos 0)) (the-same-value .result)
     (sfits-of (the-same-value-arg .given)) (sfits-of (c .before .before .before .same-value-arg2 .given)) (the-same-value .ensures) ∙ not-true _
     (c .before .if3 .taken))
@@ -202,18 +184,18 @@ returns-5 : tie.Need-returns-5
 returns-5 c =
     let args = c .before .before .before .before .before .before .before .before .before .before .before .before .before .before .args in
     let pre = c .before .before .before .before .before .before .before .before .before .before .before .before .before .before .pre in
-    let the-number = c .before .before .before .before .before .before .before .before .before .before .before .number in
-    let the-number2 = c .before .before .before .before .before .before .before .before .before .before .number2 in
+    let the-size = c .before .before .before .before .before .before .before .before .before .before .before .size-of in
+    let other-size = c .before .before .before .before .before .before .before .before .before .before .size-of2 in
     let if1 = c .before .before .before .before .before .before .before .before .before .if1 in
     let the-same-logs = c .before .before .before .before .before .before .before .before .same-logs in
     let the-enum-told = c .before .before .before .before .before .before .enum-told in
-    let the-number3 = c .before .before .before .before .before .number3 in
+    let the-commit = c .before .before .before .before .before .commit-of in
     let if2 = c .before .before .before .before .if2 in
     let the-same-value = c .before .same-value in
     λ t. all-equal (args .n) (args .plants .now) (args .logs .now) t (args .values .now) (args .reference) (args .id) (pre .2) (pre .3)
-    (sym (the-number .ensures) ∙ (if1 .left ∙ the-number2 .ensures)) (sym (the-same-logs .ensures ∙ ap
-    (firstOf (in-words (args .logs .now) (args .reference) (args .id)) 0) (the-number .ensures)) ∙ the-enum-told .given .1)
-    (sym (the-number3 .ensures) ∙ (if2 .left ∙ the-number .ensures)) (as-read (getD (args .values .now) (args .id) (pos 0))
+    (sym (the-size .ensures) ∙ (if1 .left ∙ other-size .ensures)) (sym (the-same-logs .ensures ∙ ap
+    (firstOf (in-words (args .logs .now) (args .reference) (args .id)) 0) (the-size .ensures)) ∙ the-enum-told .given .1)
+    (sym (the-commit .ensures) ∙ (if2 .left ∙ the-size .ensures)) (as-read (getD (args .values .now) (args .id) (pos 0))
     (getD (args .values .now) (args .reference) (pos 0)) (the-same-value .result) (sfits-of (c .before .before .before .same-value-arg .given))
     (sfits-of (c .before .before .same-value-arg2 .given)) (the-same-value .ensures) ∙ not-false _ (c .if3 .left))
 
@@ -221,20 +203,14 @@ pub converged-with-spec : {M : Type 1} → statement M
 converged-with-spec =
     tie.close
     (tie.spec
-    mul-number
-    add-number
-    number-requires
-    mul-number-2
-    add-number-2
-    number-requires-2
+    size-of-requires
+    size-of-requires-2
     broken-requires
     returns
     same-logs-requires
     enum-told
     returns-2
-    mul-number-3
-    add-number-3
-    number-requires-3
+    commit-of-requires
     broken-requires-2
     returns-3
     mul-same-value

@@ -29,26 +29,8 @@ abbrev μ-loop : tie.MeasureT-loop
 loop-holds : tie.Need-loop-holds Inv-loop μ-loop
 loop-holds c = (omega arith, rw sub-zero)
 
-mul-same-entry : tie.Need-mul-same-entry Inv-loop μ-loop
-mul-same-entry c = omega arith
-
-mul-same-entry-2 : tie.Need-mul-same-entry-2 Inv-loop μ-loop
-mul-same-entry-2 c = omega arith
-
-add-same-entry : tie.Need-add-same-entry Inv-loop μ-loop
-add-same-entry c = omega arith
-
-mul-same-entry-3 : tie.Need-mul-same-entry-3 Inv-loop μ-loop
-mul-same-entry-3 c = omega arith
-
-mul-same-entry-4 : tie.Need-mul-same-entry-4 Inv-loop μ-loop
-mul-same-entry-4 c = omega arith
-
-add-same-entry-2 : tie.Need-add-same-entry-2 Inv-loop μ-loop
-add-same-entry-2 c = omega arith
-
-same-entry-requires : tie.Need-same-entry-requires Inv-loop μ-loop
-same-entry-requires c κs = search needs
+same-logged-requires : tie.Need-same-logged-requires Inv-loop μ-loop
+same-logged-requires c κs = search needs
 
 broken-requires : tie.Need-broken-requires Inv-loop μ-loop
 broken-requires c κs = search needs
@@ -60,7 +42,7 @@ returns c =
     c .broken .ensures
     ∙ sym (l .inv .1 ∙ first-stop (compared (a .logs .now) (a .reference) (a .id)) (l .i) (a .size) (Broken Convergence (a .id) (l .i) 2)
     (c .before .before .before .loop-test .taken)
-    (rw (sym (c .before .before .same-entry .ensures) ∙ not-true _ (c .before .if1 .taken))) (broken-no-pass Convergence (a .id) (l .i) 2))
+    (rw (sym (c .before .before .same-logged .ensures) ∙ not-true _ (c .before .if1 .taken))) (broken-no-pass Convergence (a .id) (l .i) 2))
 
 add-i : tie.Need-add-i Inv-loop μ-loop
 add-i c = omega arith
@@ -74,7 +56,7 @@ loop-again c =
     let l = c .before .before .before .loop in (
       omega arith,
       l .inv .1 ∙ first-on (compared (a .logs .now) (a .reference) (a .id)) (l .i) (a .size) (c .before .before .loop-test .taken)
-          (rw (sym (c .before .same-entry .ensures) ∙ not-false _ (c .if1 .left))),
+          (rw (sym (c .before .same-logged .ensures) ∙ not-false _ (c .if1 .left))),
     )
 
 returns-2 : tie.Need-returns-2 Inv-loop μ-loop
@@ -90,13 +72,7 @@ same-logs-spec =
     Inv-loop
     μ-loop
     loop-holds
-    mul-same-entry
-    mul-same-entry-2
-    add-same-entry
-    mul-same-entry-3
-    mul-same-entry-4
-    add-same-entry-2
-    same-entry-requires
+    same-logged-requires
     broken-requires
     returns
     add-i

@@ -4,12 +4,12 @@ use native.Mathlib.Omega.{arith}
 use mathlib.Core.Bool.{Bool, true, false, not}
 use mathlib.Core.List.{List}
 use mathlib.Core.Path.{_≡_, sym, ap, _∙_}
-use Prim.Native.Nat.{ℕ, _+_, _-_, _≤_, _<_}
+use Prim.Native.Nat.{ℕ, _-_, _≤_, _<_}
 use lib.Dec.{eqb}
 use lib.ListN.{getD}
 use Rattle.properties_snapshots.specs.Below.{allBelow}
 use Rattle.properties_snapshots.specs.Cluster.{Entry, entry, clusterIn}
-use Rattle.properties_snapshots.specs.Layout.{logEntries, commitAt, entryAt}
+use Rattle.properties_snapshots.specs.Layout.{idAt, logEntries, commitAt, entryAt}
 use Rattle.properties_snapshots.specs.Shape.{Snapshot, Forward}
 use Rattle.properties_snapshots.proofs.Below.{all-none, all-more, all-false}
 use Rattle.properties_snapshots.proofs.Held.{entry-held}
@@ -25,14 +25,14 @@ module _ (n : ℕ) (p l t : List ℕ) (s : Snapshot n p l) (f : Forward n p t) (
   within : i < logEntries
   within = omega (arith, s .sizes r h, f .within r h)
 
-  the-id : entry (clusterIn n p l t) r i .id ≡ getD l (entryAt r i + 2) 0
+  the-id : entry (clusterIn n p l t) r i .id ≡ getD l (idAt (entryAt r i)) 0
   the-id = ap (λ (e : Entry). e .id) (entry-held n p l t r h i (omega (arith, f .within r h)))
 
-  equal : (j x : ℕ) → x ≡ idOf (clusterIn n p l t) r j → x ≡ getD l (entryAt r i + 2) 0 → differs n p l t r i j ≡ false
-  equal j x e g = rw (the-id, eq-eqb (idOf (clusterIn n p l t) r j) (getD l (entryAt r i + 2) 0) (sym e ∙ g))
+  equal : (j x : ℕ) → x ≡ idOf (clusterIn n p l t) r j → x ≡ getD l (idAt (entryAt r i)) 0 → differs n p l t r i j ≡ false
+  equal j x e g = rw (the-id, eq-eqb (idOf (clusterIn n p l t) r j) (getD l (idAt (entryAt r i)) 0) (sym e ∙ g))
 
-  unequal : (j x : ℕ) → x ≡ idOf (clusterIn n p l t) r j → (x ≡ getD l (entryAt r i + 2) 0 → ⊥) → differs n p l t r i j ≡ true
-  unequal j x e g = rw (the-id, ne-eqb (idOf (clusterIn n p l t) r j) (getD l (entryAt r i + 2) 0) (λ z. g (e ∙ z)))
+  unequal : (j x : ℕ) → x ≡ idOf (clusterIn n p l t) r j → (x ≡ getD l (idAt (entryAt r i)) 0 → ⊥) → differs n p l t r i j ≡ true
+  unequal j x e g = rw (the-id, ne-eqb (idOf (clusterIn n p l t) r j) (getD l (idAt (entryAt r i)) 0) (λ z. g (e ∙ z)))
 
   found : (j : ℕ) → j < i → differs n p l t r i j ≡ false → false ≡ unseen (clusterIn n p l t) r i
   unfolding unseen
@@ -48,63 +48,12 @@ Inv-loop n plants logs tracker r i id j₀ j = (j ≤ i) × (allBelow j (differs
 abbrev μ-loop : tie.MeasureT-loop
 μ-loop n plants logs tracker r i id j₀ j = i - j
 
-mul-id : tie.Need-mul-id Inv-loop μ-loop
-mul-id c =
+logged-id-requires : tie.Need-logged-id-requires Inv-loop μ-loop
+logged-id-requires c κs =
+    let a = c .before .before .before .args in
     let pre = c .before .before .before .pre in
-    omega (arith, pre .0 .0 .few, pre .1 .0)
-
-mul-id-2 : tie.Need-mul-id-2 Inv-loop μ-loop
-mul-id-2 c =
-    let pre = c .before .before .before .pre in
-    let a = c .before .before .before .args in omega (
-      arith,
-      within (a .n) (a .plants .now) (a .logs .now) (a .tracker .now) (pre .0 .0) (pre .0 .2)
-          (a .r) (a .i) (pre .1 .0) (pre .1 .1),
-    )
-
-add-id : tie.Need-add-id Inv-loop μ-loop
-add-id c =
-    let pre = c .before .before .before .pre in
-    let a = c .before .before .before .args in omega (
-      arith,
-      within (a .n) (a .plants .now) (a .logs .now) (a .tracker .now) (pre .0 .0) (pre .0 .2)
-          (a .r) (a .i) (pre .1 .0) (pre .1 .1),
-      pre .0 .0 .few,
-      pre .1 .0,
-    )
-
-add-id-2 : tie.Need-add-id-2 Inv-loop μ-loop
-add-id-2 c =
-    let pre = c .before .before .before .pre in
-    let a = c .before .before .before .args in omega (
-      arith,
-      within (a .n) (a .plants .now) (a .logs .now) (a .tracker .now) (pre .0 .0) (pre .0 .2)
-          (a .r) (a .i) (pre .1 .0) (pre .1 .1),
-      pre .0 .0 .few,
-      pre .1 .0,
-    )
-
-mul-id-3 : tie.Need-mul-id-3 Inv-loop μ-loop
-mul-id-3 c =
-    let pre = c .before .before .before .pre in
-    let a = c .before .before .before .args in omega (
-      arith,
-      within (a .n) (a .plants .now) (a .logs .now) (a .tracker .now) (pre .0 .0) (pre .0 .2)
-          (a .r) (a .i) (pre .1 .0) (pre .1 .1),
-      pre .0 .0 .few,
-      pre .1 .0,
-    )
-
-shared-slice-read-id : tie.Need-shared-slice-read-id Inv-loop μ-loop
-shared-slice-read-id c =
-    let pre = c .before .before .before .before .pre in
-    let a = c .before .before .before .before .args in omega (
-      arith,
-      within (a .n) (a .plants .now) (a .logs .now) (a .tracker .now) (pre .0 .0)
-          (pre .0 .2) (a .r) (a .i) (pre .1 .0) (pre .1 .1),
-      pre .0 .0 .logs,
-      pre .1 .0,
-    )
+    let w = within (a .n) (a .plants .now) (a .logs .now) (a .tracker .now) (pre .0 .0) (pre .0 .2) (a .r) (a .i) (pre .1 .0) (pre .1 .1) in
+    (omega (arith, pre .0 .0 .few, pre .1 .0), omega (arith, w), omega (arith, w, pre .0 .0 .logs, pre .1 .0))
 
 loop-holds : tie.Need-loop-holds Inv-loop μ-loop
 loop-holds c =
@@ -123,7 +72,7 @@ returns c =
     found (a .n) (a .plants .now) (a .logs .now) (a .tracker .now) (pre .0 .0) (pre .0 .2) (a .r) (a .i) (pre .1 .0) (pre .1 .1) (loop .j)
     (c .before .before .loop-test .taken)
     (equal (a .n) (a .plants .now) (a .logs .now) (a .tracker .now) (pre .0 .0) (pre .0 .2) (a .r) (a .i) (pre .1 .0) (pre .1 .1) (loop .j) _
-    (c .before .id-of .ensures) (c .if1 .taken))
+    (c .before .id-of .ensures) (c .if1 .taken ∙ c .before .before .before .before .logged-id .ensures))
 
 add-j : tie.Need-add-j Inv-loop μ-loop
 add-j c =
@@ -146,7 +95,7 @@ loop-again c =
       omega arith,
       all-more (loop .j) (differs (a .n) (a .plants .now) (a .logs .now) (a .tracker .now) (a .r) (a .i)) (loop .inv .1)
           (unequal (a .n) (a .plants .now) (a .logs .now) (a .tracker .now) (pre .0 .0) (pre .0 .2) (a .r) (a .i) (pre .1 .0) (pre .1 .1) (loop .j) _
-          (c .before .id-of .ensures) (c .if1 .left)),
+          (c .before .id-of .ensures) (λ z. c .if1 .left (z ∙ sym (c .before .before .before .before .logged-id .ensures)))),
     )
 
 returns-2 : tie.Need-returns-2 Inv-loop μ-loop
@@ -163,12 +112,7 @@ unseen-spec =
     (tie.spec
     Inv-loop
     μ-loop
-    mul-id
-    mul-id-2
-    add-id
-    add-id-2
-    mul-id-3
-    shared-slice-read-id
+    logged-id-requires
     loop-holds
     id-of-requires
     returns

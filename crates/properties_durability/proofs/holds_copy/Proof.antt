@@ -4,11 +4,11 @@ use borrow.Author.Tests.{lt-ltb, le-ltb, eq-eqb, ne-eqb}
 use native.Mathlib.Omega.{arith}
 use mathlib.Core.Bool.{false}
 use mathlib.Core.List.{List}
-use mathlib.Core.Path.{_≡_, _∙_}
+use mathlib.Core.Path.{_≡_, sym, _∙_}
 use Prim.Native.Nat.{ℕ, _+_, _*_, _≤_, _<_}
 use lib.ListN.{getD}
 use Rattle.properties_snapshots.specs.Cluster.{Entry, sameEntry, entryIn, clusterIn}
-use Rattle.properties_snapshots.specs.Layout.{logWords, recoveringAt, sizeAt, entryAt}
+use Rattle.properties_snapshots.specs.Layout.{entryWords, logWords, recoveringAt, sizeAt, entryAt}
 use Rattle.properties_snapshots.specs.Shape.{Snapshot}
 use Rattle.properties_snapshots.proofs.Held.{recovering-held, size-held, entry-held}
 use Rattle.properties_durability.specs.Durability.{holdsCopy}
@@ -40,73 +40,39 @@ module _ (n : ℕ) (p l t : List ℕ) (i q : ℕ) (e : Entry) (h : q < n) where
       )
 
 -- both entries lie in the log words
-inside : (n : ℕ) (p l : List ℕ) → Snapshot n p l → (r i q : ℕ) → r < n → i < getD p (sizeAt r) 0 → q < n → entryAt q i + 3 < n * logWords
+inside : (n : ℕ) (p l : List ℕ) → Snapshot n p l → (r i q : ℕ) → r < n → i < getD p (sizeAt r) 0 → q < n → entryAt q i + entryWords ≤ n * logWords
 inside n p l s r i q h k g = omega (arith, s .sizes r h)
 
-mul-if1 : tie.Need-mul-if1
-mul-if1 c = search needs
-
-mul-if1-2 : tie.Need-mul-if1-2
-mul-if1-2 c = search needs
-
-shared-slice-read-if1 : tie.Need-shared-slice-read-if1
-shared-slice-read-if1 c = search needs
+recovering-of-requires : tie.Need-recovering-of-requires
+recovering-of-requires c κs = search needs
 
 returns : tie.Need-returns
 returns c =
     let pre = c .before .before .before .before .pre in
-    λ t. let a = c .before .before .before .before .args in away (a .n) (a .plants .now) (a .logs .now) t (a .i) (a .q) _ (pre .3) (c .if1 .taken)
+    λ t. let a = c .before .before .before .before .args in away (a .n) (a .plants .now) (a .logs .now) t (a .i) (a .q) _ (pre .3)
+    (sym (c .before .recovering-of .ensures) ∙ c .if1 .taken)
 
-mul-number : tie.Need-mul-number
-mul-number c = search needs
-
-add-number : tie.Need-add-number
-add-number c = search needs
-
-number-requires : tie.Need-number-requires
-number-requires c κs = search needs
+size-of-requires : tie.Need-size-of-requires
+size-of-requires c κs = search needs
 
 returns-2 : tie.Need-returns-2
 returns-2 c =
     let pre = c .before .before .before .before .before .before .pre in
     λ t.
     let a = c .before .before .before .before .before .before .args in
-    short (a .n) (a .plants .now) (a .logs .now) t (a .i) (a .q) _ (pre .3) (c .before .before .if1 .left)
-    (omega (arith, c .before .number .ensures, c .if2 .taken))
+    short (a .n) (a .plants .now) (a .logs .now) t (a .i) (a .q) _ (pre .3)
+    (λ e. c .before .before .if1 .left (c .before .before .before .recovering-of .ensures ∙ e)) (omega (arith, c .before .size-of .ensures, c .if2 .taken))
 
-mul-same-entry : tie.Need-mul-same-entry
-mul-same-entry c = search needs
-
-mul-same-entry-2 : tie.Need-mul-same-entry-2
-mul-same-entry-2 c =
-    let pre = c .before .before .before .before .before .before .pre in
-    let a = c .before .before .before .before .before .before .args in omega (arith, pre .0 .sizes (a .r) (pre .1))
-
-add-same-entry : tie.Need-add-same-entry
-add-same-entry c =
-    let pre = c .before .before .before .before .before .before .pre in
-    let a = c .before .before .before .before .before .before .args in omega (arith, pre .0 .sizes (a .r) (pre .1), pre .0 .few)
-
-mul-same-entry-3 : tie.Need-mul-same-entry-3
-mul-same-entry-3 c = search needs
-
-mul-same-entry-4 : tie.Need-mul-same-entry-4
-mul-same-entry-4 c =
-    let pre = c .before .before .before .before .before .before .pre in
-    let a = c .before .before .before .before .before .before .args in omega (arith, pre .0 .sizes (a .r) (pre .1))
-
-add-same-entry-2 : tie.Need-add-same-entry-2
-add-same-entry-2 c =
-    let pre = c .before .before .before .before .before .before .pre in
-    let a = c .before .before .before .before .before .before .args in omega (arith, pre .0 .sizes (a .r) (pre .1), pre .0 .few)
-
-same-entry-requires : tie.Need-same-entry-requires
-same-entry-requires c κs =
+same-logged-requires : tie.Need-same-logged-requires
+same-logged-requires c κs =
     let pre = c .before .before .before .before .before .before .pre in
     let a = c .before .before .before .before .before .before .args in
     let s = pre .0 in (
-      omega (arith, s .logs, inside (a .n) (a .plants .now) (a .logs .now) s (a .r) (a .i) (a .q) (pre .1) (pre .2) (pre .3)),
-      omega (arith, s .logs, inside (a .n) (a .plants .now) (a .logs .now) s (a .r) (a .i) (a .r) (pre .1) (pre .2) (pre .1)),
+      (omega (arith, s .few, pre .3), omega (arith, s .few, pre .1), omega (arith, s .sizes (a .r) (pre .1), pre .2)),
+      (
+        omega (arith, s .logs, inside (a .n) (a .plants .now) (a .logs .now) s (a .r) (a .i) (a .q) (pre .1) (pre .2) (pre .3)),
+        omega (arith, s .logs, inside (a .n) (a .plants .now) (a .logs .now) s (a .r) (a .i) (a .r) (pre .1) (pre .2) (pre .1)),
+      ),
     )
 
 returns-3 : tie.Need-returns-3
@@ -114,28 +80,19 @@ returns-3 c =
     let pre = c .before .before .before .before .before .before .before .pre in
     λ t.
     let a = c .before .before .before .before .before .before .before .args in
-    c .same-entry .ensures
-    ∙ there (a .n) (a .plants .now) (a .logs .now) t (a .i) (a .q) _ (pre .3) (c .before .before .before .if1 .left)
-    (omega (arith, c .before .before .number .ensures, c .before .if2 .left)) _
+    c .same-logged .ensures
+    ∙ there (a .n) (a .plants .now) (a .logs .now) t (a .i) (a .q) _ (pre .3)
+    (λ e. c .before .before .before .if1 .left (c .before .before .before .before .recovering-of .ensures ∙ e))
+    (omega (arith, c .before .before .size-of .ensures, c .before .if2 .left)) _
     (entry-held (a .n) (a .plants .now) (a .logs .now) t (a .r) (pre .1) (a .i) (pre .2))
 
 pub holds-copy-spec : {M : Type 1} → statement M
 holds-copy-spec =
     tie.close
     (tie.spec
-    mul-if1
-    mul-if1-2
-    shared-slice-read-if1
+    recovering-of-requires
     returns
-    mul-number
-    add-number
-    number-requires
+    size-of-requires
     returns-2
-    mul-same-entry
-    mul-same-entry-2
-    add-same-entry
-    mul-same-entry-3
-    mul-same-entry-4
-    add-same-entry-2
-    same-entry-requires
+    same-logged-requires
     returns-3)

@@ -1,4 +1,5 @@
 -- `properties_durability::participants` meets its contract. The loop's invariant: the plants passed are counted. Assumes nothing.
+use borrow.Author.Needs.{needs}
 use borrow.Author.Tests.{eq-eqb, ne-eqb}
 use native.Mathlib.Omega.{arith}
 use mathlib.Core.Bool.{Bool, true, false, not}
@@ -34,16 +35,10 @@ abbrev μ-loop : tie.MeasureT-loop
 μ-loop n plants count₀ q₀ count q = n - q
 
 loop-holds : tie.Need-loop-holds Inv-loop μ-loop
-loop-holds c = (omega arith, omega arith, λ l t. sym (count-none (takes (c .args .n) (c .args .plants .now) l t)))
+loop-holds c = (omega arith, omega arith, λ l t. sym (count-none (takes (c .before .args .n) (c .before .args .plants .now) l t)))
 
-mul-if1 : tie.Need-mul-if1 Inv-loop μ-loop
-mul-if1 c = omega arith
-
-mul-if1-2 : tie.Need-mul-if1-2 Inv-loop μ-loop
-mul-if1-2 c = omega arith
-
-shared-slice-read-if1 : tie.Need-shared-slice-read-if1 Inv-loop μ-loop
-shared-slice-read-if1 c = omega arith
+recovering-of-requires : tie.Need-recovering-of-requires Inv-loop μ-loop
+recovering-of-requires c κs = search needs
 
 add-count : tie.Need-add-count Inv-loop μ-loop
 add-count c = omega arith
@@ -56,29 +51,30 @@ loop-less c = omega arith
 
 loop-again : tie.Need-loop-again Inv-loop μ-loop
 loop-again c =
-    let a = c .before .before .before .before .args in
+    let a = c .before .before .before .before .before .args in
     let i = c .before .before .before .loop in
     let h = c .before .before .loop-test .taken in
+    let word = c .before .recovering-of .ensures in
     ⊎-elim
     (λ w. (
       omega arith,
       omega (arith, w .1),
       λ l t.
           w .1 ∙ (ap (λ (x : ℕ). x + 1) (i .inv .2 l t) ∙ sym (count-in (i .q) (takes (a .n) (a .plants .now) l t)
-          (is-in (a .n) (a .plants .now) l t (i .q) h (w .0 .taken)))),
+          (is-in (a .n) (a .plants .now) l t (i .q) h (λ e. w .0 .taken (word ∙ e))))),
     ))
     (λ w. (
       omega arith,
       omega (arith, w .1),
       λ l t.
-          w .1 ∙ (i .inv .2 l t ∙ sym (count-out (i .q) (takes (a .n) (a .plants .now) l t) (is-out (a .n) (a .plants .now) l t (i .q) h (w .0 .left)))),
+          w .1 ∙ (i .inv .2 l t ∙ sym (count-out (i .q) (takes (a .n) (a .plants .now) l t) (is-out (a .n) (a .plants .now) l t (i .q) h (sym word ∙ w .0 .left)))),
     ))
     (c .if1 .came)
 
 returns : tie.Need-returns Inv-loop μ-loop
 unfolding participants
 returns c =
-    let a = c .before .before .args in
+    let a = c .before .before .before .args in
     let i = c .before .loop in
     let z : i .q ≡ a .n = omega arith in
     (omega arith, λ l t. i .inv .2 l t ∙ ap (λ (k : ℕ). countBelow k (takes (a .n) (a .plants .now) l t)) z)
@@ -90,9 +86,7 @@ participants-spec =
     Inv-loop
     μ-loop
     loop-holds
-    mul-if1
-    mul-if1-2
-    shared-slice-read-if1
+    recovering-of-requires
     add-count
     add-q
     loop-less

@@ -1,122 +1,93 @@
--- `properties_remembering::copy_entry` meets its contract: four words set one after the other are the entry's words laid. Assumes nothing.
-use borrow.Author.Needs.{needs}
+-- `properties_remembering::copy_entry` meets its contract. The loop's invariant: the words passed are laid. Assumes nothing.
 use native.Mathlib.Omega.{arith}
-use mathlib.Core.List.{List, [], _∷_}
-use mathlib.Core.Path.{_≡_, ap, _∙_}
-use Prim.Native.Nat.{ℕ, _+_, _<_}
+use mathlib.Core.List.{List}
+use mathlib.Core.Path.{_≡_, refl, ap, _∙_}
+use Prim.Native.Nat.{ℕ, _+_, _-_, _≤_}
 use lib.ListN.{length, getD, set, length-set}
 use Rattle.basis.specs.Basis.{laid}
-use Rattle.properties_snapshots.proofs.Laid.{laid-set, laid-next}
+use Rattle.properties_snapshots.specs.Below.{numbered}
+use Rattle.properties_snapshots.specs.Layout.{entryWords}
+use Rattle.properties_snapshots.proofs.Laid.{laid-numbered, laid-start}
+use Rattle.properties_snapshots.proofs.Same.{entry-words}
 use Rattle.properties_remembering.proofs.copy_entry.Statement.{statement}
 use Rattle.properties_remembering.proofs.copy_entry.Tie as tie
 
-four : (w : List ℕ) (a x y z v : ℕ) → a + 3 < length w → set (set (set (set w a x) (a + 1) y) (a + 2) z) (a + 3) v ≡ laid w a (x ∷ y ∷ z ∷ v ∷ [])
-four w a x y z v h =
-    ap (λ (u : List ℕ). set (set (set u (a + 1) y) (a + 2) z) (a + 3) v) (laid-set w a x (omega arith))
-    ∙ (ap (λ (u : List ℕ). set (set u (a + 2) z) (a + 3) v) (laid-next w a (x ∷ []) (a + 1) y (omega arith) (omega arith))
-    ∙ (ap (λ (u : List ℕ). set u (a + 3) v) (laid-next w a (x ∷ y ∷ []) (a + 2) z (omega arith) (omega arith))
-    ∙ laid-next w a (x ∷ y ∷ z ∷ []) (a + 3) v (omega arith) (omega arith)))
+-- the word at a place of the entry
+abbrev word : List ℕ → ℕ → ℕ → ℕ
+word l from m = getD l (from + m) 0
 
-mul-tracker : tie.Need-mul-tracker
-mul-tracker c = search needs
+abbrev Inv-loop : tie.InvT-loop
+Inv-loop logs from tracker₀ to k₀ tracker k = (k ≤ entryWords) × (length tracker ≡ length tracker₀) ×
+    (tracker ≡ laid tracker₀ to (numbered k (word logs from)))
 
-shared-slice-read-tracker : tie.Need-shared-slice-read-tracker
-shared-slice-read-tracker c = search needs
+abbrev μ-loop : tie.MeasureT-loop
+μ-loop logs from tracker₀ to k₀ tracker k = entryWords - k
 
-mul-tracker-2 : tie.Need-mul-tracker-2
-mul-tracker-2 c = search needs
+loop-holds : tie.Need-loop-holds Inv-loop μ-loop
+loop-holds c = let a = c .args in (omega arith, refl, laid-start (a .tracker .now) (a .to) (word (a .logs .now) (a .from)) 0 refl)
 
-slice-write-tracker : tie.Need-slice-write-tracker
-slice-write-tracker c = search needs
+add-tracker : tie.Need-add-tracker Inv-loop μ-loop
+add-tracker c = omega arith
 
-add-tracker : tie.Need-add-tracker
-add-tracker c = search needs
+mul-tracker : tie.Need-mul-tracker Inv-loop μ-loop
+mul-tracker c = omega arith
 
-mul-tracker-3 : tie.Need-mul-tracker-3
-mul-tracker-3 c = search needs
+shared-slice-read-tracker : tie.Need-shared-slice-read-tracker Inv-loop μ-loop
+shared-slice-read-tracker c = omega arith
 
-shared-slice-read-tracker-2 : tie.Need-shared-slice-read-tracker-2
-shared-slice-read-tracker-2 c = search needs
+add-tracker-2 : tie.Need-add-tracker-2 Inv-loop μ-loop
+add-tracker-2 c = omega arith
 
-add-tracker-2 : tie.Need-add-tracker-2
-add-tracker-2 c = search needs
+mul-tracker-2 : tie.Need-mul-tracker-2 Inv-loop μ-loop
+mul-tracker-2 c = omega arith
 
-mul-tracker-4 : tie.Need-mul-tracker-4
-mul-tracker-4 c = search needs
+slice-write-tracker : tie.Need-slice-write-tracker Inv-loop μ-loop
+slice-write-tracker c = omega arith
 
-slice-write-tracker-2 : tie.Need-slice-write-tracker-2
-slice-write-tracker-2 c = simp length-set (omega arith)
+add-k : tie.Need-add-k Inv-loop μ-loop
+add-k c = omega arith
 
-add-tracker-3 : tie.Need-add-tracker-3
-add-tracker-3 c = search needs
+loop-less : tie.Need-loop-less Inv-loop μ-loop
+loop-less c = omega arith
 
-mul-tracker-5 : tie.Need-mul-tracker-5
-mul-tracker-5 c = search needs
+loop-again : tie.Need-loop-again Inv-loop μ-loop
+loop-again c =
+    let a = c .before .before .before .args in
+    let l = c .before .before .loop in
+    let f = word (a .logs .now) (a .from) in (
+      omega arith,
+      simp length-set (omega arith),
+      ap (λ (x : List ℕ). set x (a .to + l .k) (f (l .k))) (l .inv .2)
+          ∙ laid-numbered (a .tracker .now) (a .to) f (l .k) (a .to + l .k) (f (l .k)) refl (omega arith) refl,
+    )
 
-shared-slice-read-tracker-3 : tie.Need-shared-slice-read-tracker-3
-shared-slice-read-tracker-3 c = search needs
+same-length : tie.Need-same-length Inv-loop μ-loop
+same-length c = omega arith
 
-add-tracker-4 : tie.Need-add-tracker-4
-add-tracker-4 c = search needs
-
-mul-tracker-6 : tie.Need-mul-tracker-6
-mul-tracker-6 c = search needs
-
-slice-write-tracker-3 : tie.Need-slice-write-tracker-3
-slice-write-tracker-3 c = simp length-set (omega arith)
-
-add-tracker-5 : tie.Need-add-tracker-5
-add-tracker-5 c = search needs
-
-mul-tracker-7 : tie.Need-mul-tracker-7
-mul-tracker-7 c = search needs
-
-shared-slice-read-tracker-4 : tie.Need-shared-slice-read-tracker-4
-shared-slice-read-tracker-4 c = search needs
-
-add-tracker-6 : tie.Need-add-tracker-6
-add-tracker-6 c = search needs
-
-mul-tracker-8 : tie.Need-mul-tracker-8
-mul-tracker-8 c = search needs
-
-slice-write-tracker-4 : tie.Need-slice-write-tracker-4
-slice-write-tracker-4 c = simp length-set (omega arith)
-
-same-length : tie.Need-same-length
-same-length c = search needs
-
-returns : tie.Need-returns
+returns : tie.Need-returns Inv-loop μ-loop
 returns c =
-    let a = c .before .before .before .before .args in
-    let l = a .logs .now in
-    four (a .tracker .now) (a .to) (getD l (a .from) 0) (getD l (a .from + 1) 0) (getD l (a .from + 2) 0) (getD l (a .from + 3) 0) (omega arith)
+    let a = c .before .before .args in
+    let l = c .before .loop in
+    let z : l .k ≡ entryWords = omega arith in
+    l .inv .2
+    ∙ (ap (λ (m : ℕ). laid (a .tracker .now) (a .to) (numbered m (word (a .logs .now) (a .from)))) z
+    ∙ ap (laid (a .tracker .now) (a .to)) (entry-words (a .logs .now) (a .from)))
 
 pub copy-entry-spec : {M : Type 1} → statement M
 copy-entry-spec =
     tie.close
     (tie.spec
+    Inv-loop
+    μ-loop
+    loop-holds
+    add-tracker
     mul-tracker
     shared-slice-read-tracker
+    add-tracker-2
     mul-tracker-2
     slice-write-tracker
-    add-tracker
-    mul-tracker-3
-    shared-slice-read-tracker-2
-    add-tracker-2
-    mul-tracker-4
-    slice-write-tracker-2
-    add-tracker-3
-    mul-tracker-5
-    shared-slice-read-tracker-3
-    add-tracker-4
-    mul-tracker-6
-    slice-write-tracker-3
-    add-tracker-5
-    mul-tracker-7
-    shared-slice-read-tracker-4
-    add-tracker-6
-    mul-tracker-8
-    slice-write-tracker-4
+    add-k
+    loop-less
+    loop-again
     same-length
     returns)

@@ -22,14 +22,8 @@ loop-holds c =
     let args = c .before .args in
     (omega arith, sym (max-none (λ k. getD (args .plants .now) (commitAt k) 0) (args .known)))
 
-mul-number : tie.Need-mul-number Inv-loop μ-loop
-mul-number c = omega arith
-
-add-number : tie.Need-add-number Inv-loop μ-loop
-add-number c = omega arith
-
-number-requires : tie.Need-number-requires Inv-loop μ-loop
-number-requires c κs = search needs
+commit-of-requires : tie.Need-commit-of-requires Inv-loop μ-loop
+commit-of-requires c κs = search needs
 
 add-r : tie.Need-add-r Inv-loop μ-loop
 add-r c = omega arith
@@ -39,11 +33,11 @@ loop-less c = omega arith
 
 loop-again : tie.Need-loop-again Inv-loop μ-loop
 loop-again c =
-    let the-number = c .before .number in
+    let commit = c .before .commit-of in
     let a = c .before .before .before .before .before .args in
     let l = c .before .before .before .loop in
     let m = max-more (l .r) (λ k. getD (a .plants .now) (commitAt k) 0) (a .known) in
-    (omega arith, ⊎-elim (λ w. omega (arith, m, l .inv .1, the-number .ensures)) (λ w. omega (arith, m, l .inv .1, the-number .ensures)) (c .if1 .came))
+    (omega arith, ⊎-elim (λ w. omega (arith, m, l .inv .1, commit .ensures)) (λ w. omega (arith, m, l .inv .1, commit .ensures)) (c .if1 .came))
 
 returns : tie.Need-returns Inv-loop μ-loop
 returns c =
@@ -55,14 +49,4 @@ returns c =
 pub length-after-spec : {M : Type 1} → statement M
 length-after-spec =
     tie.close
-    (tie.spec
-    Inv-loop
-    μ-loop
-    loop-holds
-    mul-number
-    add-number
-    number-requires
-    add-r
-    loop-less
-    loop-again
-    returns)
+    (tie.spec Inv-loop μ-loop loop-holds commit-of-requires add-r loop-less loop-again returns)

@@ -8,7 +8,7 @@ use lib.ListN.{getD}
 use Rattle.properties_snapshots.specs.Below.{numbered, maxBelow}
 use Rattle.properties_snapshots.specs.Cluster.{wordsOf, plant, entryIn, clusterIn}
 use Rattle.basis.specs.Basis.{laid}
-use Rattle.properties_snapshots.specs.Layout.{logEntries, commitAt, entryAt, canonicalAt}
+use Rattle.properties_snapshots.specs.Layout.{logEntries, commitAt, entryAt, lengthAt, canonicalAt}
 use Rattle.properties_snapshots.specs.Shape.{Snapshot, Tracked, Forward}
 use Rattle.properties_snapshots.proofs.Below.{numbered-same, max-start, max-bound}
 use Rattle.properties_snapshots.proofs.Held.{canonical-long, commit-held}
@@ -19,17 +19,17 @@ use Rattle.properties_remembering.proofs.remember.Statement.{statement}
 use Rattle.properties_remembering.proofs.remember.Tie as tie
 
 module _ (n : ℕ) (p l t : List ℕ) (s : Snapshot n p l) (k : Tracked n t) (f : Forward n p t) (longest : ℕ)
-    (m : longest ≡ maxBelow n (λ r. getD p (commitAt r) 0) (getD t 1 0)) where
-  reach : (getD t 1 0 ≤ longest) × (longest ≤ logEntries)
+    (m : longest ≡ maxBelow n (λ r. getD p (commitAt r) 0) (getD t lengthAt 0)) where
+  reach : (getD t lengthAt 0 ≤ longest) × (longest ≤ logEntries)
   reach = (
-    omega (arith, max-start n (λ r. getD p (commitAt r) 0) (getD t 1 0)),
-    omega (arith, max-bound n (λ r. getD p (commitAt r) 0) (getD t 1 0) logEntries (k .canonical) (λ r h. omega (arith, f .within r h, s .sizes r h))),
+    omega (arith, max-start n (λ r. getD p (commitAt r) 0) (getD t lengthAt 0)),
+    omega (arith, max-bound n (λ r. getD p (commitAt r) 0) (getD t lengthAt 0) logEntries (k .canonical) (λ r h. omega (arith, f .within r h, s .sizes r h))),
   )
 
-  all-written : (known : ℕ) (u v w : List ℕ) → known ≡ getD t 1 0 → u ≡ withIds (clusterIn n p l t) n t
+  all-written : (known : ℕ) (u v w : List ℕ) → known ≡ getD t lengthAt 0 → u ≡ withIds (clusterIn n p l t) n t
       → v ≡ laid u (canonicalAt n known) (wordsOf (numbered (longest - known) (λ j. entryIn l
       (entryAt (committer (clusterIn n p l t) (known + j)) (known + j)))))
-      → w ≡ laid v 1 (longest ∷ numbered n (λ r. getD p (commitAt r) 0))
+      → w ≡ laid v lengthAt (longest ∷ numbered n (λ r. getD p (commitAt r) 0))
       → w ≡ remembered (clusterIn n p l t) t
   unfolding remembered withCommits withEntries
   all-written known u v w e a b g =

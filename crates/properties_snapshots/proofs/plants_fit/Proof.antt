@@ -15,12 +15,6 @@ use Rattle.properties_snapshots.proofs.Below.{all-none, all-more, all-f
 use Rattle.properties_snapshots.proofs.plants_fit.Statement.{statement}
 use Rattle.properties_snapshots.proofs.plants_fit.Tie as tie
 
-abbrev Inv-loop : tie.InvT-loop
-Inv-loop n plants r₀ r = (r ≤ n) × (allBelow r (λ k. leb (getD plants (recoveringAt k) 0) 1 && leb (getD plants (sizeAt k) 0) logEntries) ≡ true)
-
-abbrev μ-loop : tie.MeasureT-loop
-μ-loop n plants r₀ r = n - r
-
 -- the tests of a plant
 abbrev good : List ℕ → ℕ → Bool
 good p r = leb (getD p (recoveringAt r) 0) 1 && leb (getD p (sizeAt r) 0) logEntries
@@ -41,38 +35,32 @@ module _ (n r : ℕ) (p : List ℕ) where
   unfolding plantsFit
   holds e a = sym (ap (λ (k : ℕ). allBelow k (good p)) (sym e) ∙ a)
 
+abbrev Inv-loop : tie.InvT-loop
+Inv-loop n plants r₀ r = (r ≤ n) × (allBelow r (λ k. leb (getD plants (recoveringAt k) 0) 1 && leb (getD plants (sizeAt k) 0) logEntries) ≡ true)
+
+abbrev μ-loop : tie.MeasureT-loop
+μ-loop n plants r₀ r = n - r
+
 loop-holds : tie.Need-loop-holds Inv-loop μ-loop
 loop-holds c = (omega arith, all-none (good (c .before .args .plants .now)))
 
-mul-if1 : tie.Need-mul-if1 Inv-loop μ-loop
-mul-if1 c = omega arith
-
-mul-if1-2 : tie.Need-mul-if1-2 Inv-loop μ-loop
-mul-if1-2 c = omega arith
-
-shared-slice-read-if1 : tie.Need-shared-slice-read-if1 Inv-loop μ-loop
-shared-slice-read-if1 c = omega arith
+recovering-of-requires : tie.Need-recovering-of-requires Inv-loop μ-loop
+recovering-of-requires c κs = search needs
 
 returns : tie.Need-returns Inv-loop μ-loop
 returns c =
     let args = c .before .before .before .before .before .args in
-    unsure (args .n) (c .before .before .before .loop .r) (args .plants .now) (c .before .before .loop-test .taken) (c .if1 .taken)
+    unsure (args .n) (c .before .before .before .loop .r) (args .plants .now) (c .before .before .loop-test .taken) (omega (arith, c .before .recovering-of .ensures, c .if1 .taken))
 
-mul-number : tie.Need-mul-number Inv-loop μ-loop
-mul-number c = omega arith
-
-add-number : tie.Need-add-number Inv-loop μ-loop
-add-number c = omega arith
-
-number-requires : tie.Need-number-requires Inv-loop μ-loop
-number-requires c κs = search needs
+size-of-requires : tie.Need-size-of-requires Inv-loop μ-loop
+size-of-requires c κs = search needs
 
 returns-2 : tie.Need-returns-2 Inv-loop μ-loop
 returns-2 c =
     let args = c .before .before .before .before .before .before .before .args in
     let loop = c .before .before .before .before .before .loop in
     let loop-test = c .before .before .before .before .loop-test in
-    long (args .n) (loop .r) (args .plants .now) (loop-test .taken) (c .before .before .if1 .left) (omega (arith, c .before .number .ensures))
+    long (args .n) (loop .r) (args .plants .now) (loop-test .taken) (omega (arith, c .before .before .before .recovering-of .ensures, c .before .before .if1 .left)) (omega (arith, c .before .size-of .ensures))
 
 add-r : tie.Need-add-r Inv-loop μ-loop
 add-r c = omega arith
@@ -85,8 +73,8 @@ loop-again c =
     let a = c .before .before .before .before .before .before .before .args in
     let l = c .before .before .before .before .before .loop in (
       omega arith,
-      all-more (l .r) (good (a .plants .now)) (l .inv .1) (more (a .n) (l .r) (a .plants .now) (c .before .before .if1 .left)
-          (omega (arith, c .before .number .ensures))),
+      all-more (l .r) (good (a .plants .now)) (l .inv .1) (more (a .n) (l .r) (a .plants .now)
+          (omega (arith, c .before .before .before .recovering-of .ensures, c .before .before .if1 .left)) (omega (arith, c .before .size-of .ensures))),
     )
 
 returns-3 : tie.Need-returns-3 Inv-loop μ-loop
@@ -102,13 +90,9 @@ plants-fit-spec =
     Inv-loop
     μ-loop
     loop-holds
-    mul-if1
-    mul-if1-2
-    shared-slice-read-if1
+    recovering-of-requires
     returns
-    mul-number
-    add-number
-    number-requires
+    size-of-requires
     returns-2
     add-r
     loop-less

@@ -1,162 +1,97 @@
--- `properties_snapshots::same_entry` meets its contract: each answer is a test of the definition. Assumes nothing.
-use borrow.Author.Needs.{needs}
+-- `properties_snapshots::same_entry` meets its contract. The loop's invariant: the words passed are equal. Assumes nothing.
 use borrow.Author.Tests.{eq-eqb, ne-eqb}
-use mathlib.Core.Bool.{false}
+use native.Mathlib.Omega.{arith}
+use mathlib.Core.Bool.{Bool, true, false}
 use mathlib.Core.List.{List}
-use mathlib.Core.Path.{_≡_, sym, _∙_}
-use Prim.Native.Nat.{ℕ, _+_}
+use mathlib.Core.Path.{_≡_, sym, ap, _∙_}
+use Prim.Native.Nat.{ℕ, _+_, _-_, _≤_, _<_}
 use lib.Dec.{eqb}
 use lib.ListN.{getD}
+use Rattle.properties_snapshots.specs.Below.{allBelow}
 use Rattle.properties_snapshots.specs.Cluster.{sameEntry, entryIn}
+use Rattle.properties_snapshots.specs.Layout.{entryWords}
+use Rattle.properties_snapshots.proofs.Below.{all-none, all-more, all-false}
+use Rattle.properties_snapshots.proofs.Same.{words-compared}
 use Rattle.properties_snapshots.proofs.same_entry.Statement.{statement}
 use Rattle.properties_snapshots.proofs.same_entry.Tie as tie
 
-module _ (a b : List ℕ) (x y : ℕ) where
-  client : (getD a x 0 ≡ getD b y 0 → ⊥) → false ≡ sameEntry (entryIn a x) (entryIn b y)
-  unfolding sameEntry
-  client h = rw (ne-eqb (getD a x 0) (getD b y 0) h)
+-- the words at a place of each are equal
+abbrev alike : List ℕ → ℕ → List ℕ → ℕ → ℕ → Bool
+alike a x b y m = eqb (getD a (x + m) 0) (getD b (y + m) 0)
 
-  request : getD a x 0 ≡ getD b y 0 → (getD a (x + 1) 0 ≡ getD b (y + 1) 0 → ⊥) → false ≡ sameEntry (entryIn a x) (entryIn b y)
-  unfolding sameEntry
-  request e h = rw (eq-eqb (getD a x 0) (getD b y 0) e, ne-eqb (getD a (x + 1) 0) (getD b (y + 1) 0) h)
+module _ (a : List ℕ) (x : ℕ) (b : List ℕ) (y k : ℕ) where
+  differs : k < entryWords → (getD a (x + k) 0 ≡ getD b (y + k) 0 → ⊥) → false ≡ sameEntry (entryIn a x) (entryIn b y)
+  differs h e =
+      sym (all-false entryWords (alike a x b y) k h (ne-eqb (getD a (x + k) 0) (getD b (y + k) 0) e)) ∙ words-compared a b x y
 
-  id : getD a x 0 ≡ getD b y 0 → getD a (x + 1) 0 ≡ getD b (y + 1) 0 → (getD a (x + 2) 0 ≡ getD b (y + 2) 0 → ⊥)
-      → false ≡ sameEntry (entryIn a x) (entryIn b y)
-  unfolding sameEntry
-  id e f h =
-      rw (eq-eqb (getD a x 0) (getD b y 0) e, eq-eqb (getD a (x + 1) 0) (getD b (y + 1) 0) f, ne-eqb (getD a (x + 2) 0) (getD b (y + 2) 0) h)
+  equal : k ≡ entryWords → allBelow k (alike a x b y) ≡ true → true ≡ sameEntry (entryIn a x) (entryIn b y)
+  equal z e = sym e ∙ (ap (λ (m : ℕ). allBelow m (alike a x b y)) z ∙ words-compared a b x y)
 
-  body : getD a x 0 ≡ getD b y 0 → getD a (x + 1) 0 ≡ getD b (y + 1) 0 → getD a (x + 2) 0 ≡ getD b (y + 2) 0
-      → eqb (getD a (x + 3) 0) (getD b (y + 3) 0) ≡ sameEntry (entryIn a x) (entryIn b y)
-  unfolding sameEntry
-  body e f g =
-      rw (eq-eqb (getD a x 0) (getD b y 0) e, eq-eqb (getD a (x + 1) 0) (getD b (y + 1) 0) f, eq-eqb (getD a (x + 2) 0) (getD b (y + 2) 0) g)
+abbrev Inv-loop : tie.InvT-loop
+Inv-loop a x b y k₀ k = (k ≤ entryWords) × (allBelow k (alike a x b y) ≡ true)
 
-mul-if1 : tie.Need-mul-if1
-mul-if1 c = search needs
+abbrev μ-loop : tie.MeasureT-loop
+μ-loop a x b y k₀ k = entryWords - k
 
-shared-slice-read-if1 : tie.Need-shared-slice-read-if1
-shared-slice-read-if1 c = search needs
+loop-holds : tie.Need-loop-holds Inv-loop μ-loop
+loop-holds c = let s = c .args in (omega arith, all-none (alike (s .a .now) (s .x) (s .b .now) (s .y)))
 
-mul-if1-2 : tie.Need-mul-if1-2
-mul-if1-2 c = search needs
+add-if1 : tie.Need-add-if1 Inv-loop μ-loop
+add-if1 c = omega arith
 
-shared-slice-read-if1-2 : tie.Need-shared-slice-read-if1-2
-shared-slice-read-if1-2 c = search needs
+mul-if1 : tie.Need-mul-if1 Inv-loop μ-loop
+mul-if1 c = omega arith
 
-returns : tie.Need-returns
+shared-slice-read-if1 : tie.Need-shared-slice-read-if1 Inv-loop μ-loop
+shared-slice-read-if1 c = omega arith
+
+add-if1-2 : tie.Need-add-if1-2 Inv-loop μ-loop
+add-if1-2 c = omega arith
+
+mul-if1-2 : tie.Need-mul-if1-2 Inv-loop μ-loop
+mul-if1-2 c = omega arith
+
+shared-slice-read-if1-2 : tie.Need-shared-slice-read-if1-2 Inv-loop μ-loop
+shared-slice-read-if1-2 c = omega arith
+
+returns : tie.Need-returns Inv-loop μ-loop
 returns c =
-    let s = c .before .before .before .args in client (s .a .now) (s .b .now) (s .x) (s .y) (c .if1 .taken)
+    let s = c .before .before .before .before .before .args in
+    differs (s .a .now) (s .x) (s .b .now) (s .y) (c .before .before .before .before .loop .k) (c .before .before .before .loop-test .taken) (c .if1 .taken)
 
-add-if2 : tie.Need-add-if2
-add-if2 c = search needs
+add-k : tie.Need-add-k Inv-loop μ-loop
+add-k c = omega arith
 
-mul-if2 : tie.Need-mul-if2
-mul-if2 c = search needs
+loop-less : tie.Need-loop-less Inv-loop μ-loop
+loop-less c = omega arith
 
-shared-slice-read-if2 : tie.Need-shared-slice-read-if2
-shared-slice-read-if2 c = search needs
+loop-again : tie.Need-loop-again Inv-loop μ-loop
+loop-again c =
+    let s = c .before .before .before .before .before .args in
+    let loop = c .before .before .before .before .loop in
+    (omega arith, all-more (loop .k) (alike (s .a .now) (s .x) (s .b .now) (s .y)) (loop .inv .1) (eq-eqb _ _ (c .if1 .left)))
 
-add-if2-2 : tie.Need-add-if2-2
-add-if2-2 c = search needs
-
-mul-if2-2 : tie.Need-mul-if2-2
-mul-if2-2 c = search needs
-
-shared-slice-read-if2-2 : tie.Need-shared-slice-read-if2-2
-shared-slice-read-if2-2 c = search needs
-
-returns-2 : tie.Need-returns-2
+returns-2 : tie.Need-returns-2 Inv-loop μ-loop
 returns-2 c =
-    let s = c .before .before .before .before .before .before .args in request (s .a .now) (s .b .now) (s .x) (s .y)
-    (c .before .before .before .if1 .left) (c .if2 .taken)
-
-add-if3 : tie.Need-add-if3
-add-if3 c = search needs
-
-mul-if3 : tie.Need-mul-if3
-mul-if3 c = search needs
-
-shared-slice-read-if3 : tie.Need-shared-slice-read-if3
-shared-slice-read-if3 c = search needs
-
-add-if3-2 : tie.Need-add-if3-2
-add-if3-2 c = search needs
-
-mul-if3-2 : tie.Need-mul-if3-2
-mul-if3-2 c = search needs
-
-shared-slice-read-if3-2 : tie.Need-shared-slice-read-if3-2
-shared-slice-read-if3-2 c = search needs
-
-returns-3 : tie.Need-returns-3
-returns-3 c =
-    let if1 = c .before .before .before .before .before .before .if1 in
-    let s = c .before .before .before .before .before .before .before .before .before .args in id (s .a .now) (s .b .now) (s .x) (s .y) (if1 .left)
-    (c .before .before .before .if2 .left) (c .if3 .taken)
-
-add-if4 : tie.Need-add-if4
-add-if4 c = search needs
-
-mul-if4 : tie.Need-mul-if4
-mul-if4 c = search needs
-
-shared-slice-read-if4 : tie.Need-shared-slice-read-if4
-shared-slice-read-if4 c = search needs
-
-add-if4-2 : tie.Need-add-if4-2
-add-if4-2 c = search needs
-
-mul-if4-2 : tie.Need-mul-if4-2
-mul-if4-2 c = search needs
-
-shared-slice-read-if4-2 : tie.Need-shared-slice-read-if4-2
-shared-slice-read-if4-2 c = search needs
-
-returns-4 : tie.Need-returns-4
-returns-4 c =
-    let if1 = c .before .before .before .before .before .before .before .before .before .if1 in
-    let if2 = c .before .before .before .before .before .before .if2 in
-    let s = c .before .before .before .before .before .before .before .before .before .before .before .before .args in
-    sym (ne-eqb (getD (s .a .now) (s .x + 3) 0) (getD (s .b .now) (s .y + 3) 0) (c .if4 .taken))
-    ∙ body (s .a .now) (s .b .now) (s .x) (s .y) (if1 .left) (if2 .left) (c .before .before .before .if3 .left)
-
-returns-5 : tie.Need-returns-5
-returns-5 c =
-    let if1 = c .before .before .before .before .before .before .before .before .before .if1 in
-    let if2 = c .before .before .before .before .before .before .if2 in
-    let s = c .before .before .before .before .before .before .before .before .before .before .before .before .args in
-    sym (eq-eqb (getD (s .a .now) (s .x + 3) 0) (getD (s .b .now) (s .y + 3) 0) (c .if4 .left))
-    ∙ body (s .a .now) (s .b .now) (s .x) (s .y) (if1 .left) (if2 .left) (c .before .before .before .if3 .left)
+    let s = c .before .before .args in
+    let loop = c .before .loop in
+    equal (s .a .now) (s .x) (s .b .now) (s .y) (loop .k) (omega arith) (loop .inv .1)
 
 pub same-entry-spec : {M : Type 1} → statement M
 same-entry-spec =
     tie.close
     (tie.spec
+    Inv-loop
+    μ-loop
+    loop-holds
+    add-if1
     mul-if1
     shared-slice-read-if1
+    add-if1-2
     mul-if1-2
     shared-slice-read-if1-2
     returns
-    add-if2
-    mul-if2
-    shared-slice-read-if2
-    add-if2-2
-    mul-if2-2
-    shared-slice-read-if2-2
-    returns-2
-    add-if3
-    mul-if3
-    shared-slice-read-if3
-    add-if3-2
-    mul-if3-2
-    shared-slice-read-if3-2
-    returns-3
-    add-if4
-    mul-if4
-    shared-slice-read-if4
-    add-if4-2
-    mul-if4-2
-    shared-slice-read-if4-2
-    returns-4
-    returns-5)
+    add-k
+    loop-less
+    loop-again
+    returns-2)

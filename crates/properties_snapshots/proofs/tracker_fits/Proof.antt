@@ -8,7 +8,7 @@ use mathlib.Core.Path.{_≡_, sym, _∙_}
 use Prim.Native.Nat.{ℕ, _≤_, _<_}
 use lib.ListN.{length, getD}
 use Rattle.properties_snapshots.specs.Fits.{lastsFit, trackerFits}
-use Rattle.properties_snapshots.specs.Layout.{logEntries, trackerWords}
+use Rattle.properties_snapshots.specs.Layout.{logEntries, countAt, lengthAt, trackerWords}
 use Rattle.properties_snapshots.proofs.tracker_fits.Statement.{statement}
 use Rattle.properties_snapshots.proofs.tracker_fits.Tie as tie
 
@@ -17,17 +17,17 @@ module _ (n : ℕ) (t : List ℕ) where
   unfolding trackerFits
   other-length h = rw (ne-eqb (length t) (trackerWords n) h)
 
-  other-count : length t ≡ trackerWords n → (getD t 0 0 ≡ n → ⊥) → false ≡ trackerFits n t
+  other-count : length t ≡ trackerWords n → (getD t countAt 0 ≡ n → ⊥) → false ≡ trackerFits n t
   unfolding trackerFits
-  other-count e h = rw (eq-eqb (length t) (trackerWords n) e, ne-eqb (getD t 0 0) n h)
+  other-count e h = rw (eq-eqb (length t) (trackerWords n) e, ne-eqb (getD t countAt 0) n h)
 
-  too-long : length t ≡ trackerWords n → getD t 0 0 ≡ n → logEntries < getD t 1 0 → false ≡ trackerFits n t
+  too-long : length t ≡ trackerWords n → getD t countAt 0 ≡ n → logEntries < getD t lengthAt 0 → false ≡ trackerFits n t
   unfolding trackerFits
-  too-long e f h = rw (eq-eqb (length t) (trackerWords n) e, eq-eqb (getD t 0 0) n f, lt-leb (getD t 1 0) logEntries h)
+  too-long e f h = rw (eq-eqb (length t) (trackerWords n) e, eq-eqb (getD t countAt 0) n f, lt-leb (getD t lengthAt 0) logEntries h)
 
-  else-lasts : length t ≡ trackerWords n → getD t 0 0 ≡ n → getD t 1 0 ≤ logEntries → lastsFit n t ≡ trackerFits n t
+  else-lasts : length t ≡ trackerWords n → getD t countAt 0 ≡ n → getD t lengthAt 0 ≤ logEntries → lastsFit n t ≡ trackerFits n t
   unfolding trackerFits
-  else-lasts e f h = rw (eq-eqb (length t) (trackerWords n) e, eq-eqb (getD t 0 0) n f, le-leb (getD t 1 0) logEntries h)
+  else-lasts e f h = rw (eq-eqb (length t) (trackerWords n) e, eq-eqb (getD t countAt 0) n f, le-leb (getD t lengthAt 0) logEntries h)
 
 tracker-words-requires : tie.Need-tracker-words-requires
 tracker-words-requires c κs = search needs

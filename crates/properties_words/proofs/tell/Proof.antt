@@ -5,7 +5,7 @@ use mathlib.Core.List.{[], _∷_}
 use native.Mathlib.Omega.{arith}
 use lib.ListN.{length}
 use Rattle.properties_verdicts.specs.declared.Answer.{Answer}
-use Rattle.properties_words.specs.Told.{answerNumber, toldBy}
+use Rattle.properties_words.specs.Told.{answerWords, answerNumber, toldBy}
 use Rattle.properties_words.proofs.Rows.{four}
 use borrow.Author.Needs.{needs}
 use Rattle.properties_words.proofs.tell.Statement.{statement}
@@ -56,7 +56,7 @@ refusal-number-requires c κs = search needs
 returns : tie.Need-returns
 returns c =
     let s = c .before .before .before .before in
-    let h : length (s .args .told .now) ≡ 4 = omega arith in (
+    let h : length (s .args .told .now) ≡ answerWords = omega arith in (
       sym (ap answerNumber (c .enum-told .given .1)),
       four (s .args .told .now) 0 0 0 0 h ∙ sym (ap (λ (a : Answer). toldBy a (s .args .told .now)) (c .enum-told .given .1)),
     )
@@ -65,7 +65,7 @@ returns-2 : tie.Need-returns-2
 returns-2 c =
     let a = c .before .before .answer .given in
     let s = c .before .before .before .before .before .before in
-    let h : length (s .args .told .now) ≡ 4 = omega arith in (
+    let h : length (s .args .told .now) ≡ answerWords = omega arith in (
       sym (ap answerNumber (a .1)),
       four (s .args .told .now) _ (a .0 .1 .0) (a .0 .1 .1 .0) (a .0 .1 .1 .1 .0) h
           ∙ (ap (λ (k : ℕ). k ∷ a .0 .1 .0 ∷ a .0 .1 .1 .0 ∷ a .0 .1 .1 .1 .0 ∷ []) (c .property-number .ensures)
