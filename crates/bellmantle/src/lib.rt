@@ -20,7 +20,9 @@ ghost use Rattle.network_batch.specs.Ticks.{ticked};
 ghost use Rattle.journal_calls.specs.Calls.{sends, takes, chooses, markAnswer, markWords};
 ghost use Rattle.journal_words.specs.Calls.{journalAnswer, journalHead, journalRecords, journalWords};
 ghost use Rattle.plants_words.specs.Calls.{newAnswer, newWords, applyAnswer, applyWords, nonceWords, verdictAnswer, verdictWords, coreAnswer, coreWords, coreAnswered};
-ghost use Rattle.properties.specs.Calls.{freshAnswer, freshWords, rebootAnswer, rebootWords, tickAnswer, tickWords, endAnswer};
+ghost use Rattle.properties_tracker.specs.Calls.{freshAnswer, freshWords, rebootAnswer, rebootWords};
+ghost use Rattle.properties_tick.specs.Calls.{tickAnswer, tickWords};
+ghost use Rattle.properties_end.specs.Calls.{endAnswer};
 ghost use Rattle.properties_words.specs.Told.{answerNumber, toldBy};
 ghost use Rattle.script_packed.specs.Packing.{answerWord};
 

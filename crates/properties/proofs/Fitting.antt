@@ -15,8 +15,9 @@ use Rattle.properties_snapshots.proofs.Known.{tracker-known, tracker-fits}
 use Rattle.properties_verdicts.specs.Verdicts.{onPass}
 use Rattle.properties_remembering.specs.Remembering.{remembered}
 use Rattle.properties_remembering.proofs.After.{after-tracked}
-use Rattle.properties.specs.Calls.{freshAnswer, freshWords, rebootAnswer, rebootWords, tickAnswer, tickWords}
-use Rattle.properties.proofs.Passed.{tick-known}
+use Rattle.properties_tracker.specs.Calls.{freshAnswer, freshWords, rebootAnswer, rebootWords}
+use Rattle.properties_tick.specs.Calls.{tickAnswer, tickWords}
+use Rattle.properties_tick.proofs.Passed.{tick-known}
 use Rattle.properties_verdicts.specs.declared.Answer.{Answer}
 use Rattle.properties_verdicts.specs.declared.Answer.the-variants.{Pass, Broken, Refused}
 

@@ -1,4 +1,2 @@
--- Laws that belong to no one function.
-pub mod Passed
-pub mod Laws
+-- Laws that speak of several calls.
 pub mod Fitting

@@ -3,7 +3,9 @@
 use properties_verdicts::Answer;
 ghost use mathlib.Core.Path.{_≡_};
 ghost use lib.ListN.{length};
-ghost use Rattle.properties.specs.Calls.{freshAnswer, freshWords, rebootAnswer, rebootWords, tickAnswer, tickWords, endAnswer};
+ghost use Rattle.properties_tracker.specs.Calls.{freshAnswer, freshWords, rebootAnswer, rebootWords};
+ghost use Rattle.properties_tick.specs.Calls.{tickAnswer, tickWords};
+ghost use Rattle.properties_end.specs.Calls.{endAnswer};
 ghost use Rattle.properties_words.specs.Told.{answerWords, answerNumber, toldBy};
 
 // The words of an answer.
@@ -70,7 +72,7 @@ pub fn fresh(n: u64, tracker: &mut [u64]) -> u64
     ensures answer { λ r. ⌜ r ≡ answerNumber (freshAnswer n (length (now (tracker .entry)))) ⌝ }
     ensures tracker { λ _. ⌜ now (tracker .exit) ≡ freshWords n (now (tracker .entry)) ⌝ }
 {
-    number(properties::fresh(n as usize, tracker))
+    number(properties_tracker::fresh(n as usize, tracker))
 }
 
 // A plant came back without its memory.
@@ -78,7 +80,7 @@ pub fn reboot(n: u64, id: u64, tracker: &mut [u64]) -> u64
     ensures answer { λ r. ⌜ r ≡ answerNumber (rebootAnswer n id (now (tracker .entry))) ⌝ }
     ensures tracker { λ _. ⌜ now (tracker .exit) ≡ rebootWords n id (now (tracker .entry)) ⌝ }
 {
-    number(properties::reboot(n as usize, id as usize, tracker))
+    number(properties_tracker::reboot(n as usize, id as usize, tracker))
 }
 
 // After a tick.
@@ -93,7 +95,7 @@ pub fn tick(
     ensures tracker { λ _. ⌜ now (tracker .exit) ≡ tickWords n (now (plants .entry)) (now (logs .entry)) (now (tracker .entry)) ⌝ }
     ensures told { λ _. ⌜ now (told .exit) ≡ toldBy (tickAnswer n (now (plants .entry)) (now (logs .entry)) (now (tracker .entry))) (now (told .entry)) ⌝ }
 {
-    let answer = properties::tick(n as usize, plants, logs, tracker);
+    let answer = properties_tick::tick(n as usize, plants, logs, tracker);
     tell(answer, told)
 }
 
@@ -110,6 +112,6 @@ pub fn end(
     ensures answer { λ r. ⌜ r ≡ answerNumber (endAnswer n (now (plants .entry)) (now (logs .entry)) (now (values .entry)) (now (core .entry)) (now (tracker .entry))) ⌝ }
     ensures told { λ _. ⌜ now (told .exit) ≡ toldBy (endAnswer n (now (plants .entry)) (now (logs .entry)) (now (values .entry)) (now (core .entry)) (now (tracker .entry))) (now (told .entry)) ⌝ }
 {
-    let answer = properties::end(n as usize, plants, logs, values, core, tracker);
+    let answer = properties_end::end(n as usize, plants, logs, values, core, tracker);
     tell(answer, told)
 }

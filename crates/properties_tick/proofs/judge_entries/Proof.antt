@@ -1,0 +1,73 @@
+-- `properties_tick::judge_entries` meets its contract: the first answer that is no pass. Assumes nothing.
+use borrow.Author.Needs.{needs}
+use mathlib.Core.Path.{sym, _∙_}
+use Rattle.properties_snapshots.specs.Cluster.{clusterIn}
+use Rattle.properties_verdicts.proofs.First.{no-pass, then-stop}
+use Rattle.properties_tick.specs.Ticks.{overEntries, judgedEntries}
+use Rattle.properties_tick.specs.declared.EntryProperty.the-variants.{PrefixAgreement, NoDuplicates, Durability}
+use Rattle.properties_tick.proofs.judge_entries.Statement.{statement}
+use Rattle.properties_tick.proofs.judge_entries.Tie as tie
+
+needed-copies-requires : tie.Need-needed-copies-requires
+needed-copies-requires c κs = search needs
+
+entries-requires : tie.Need-entries-requires
+entries-requires c κs = search needs
+
+enum-told : tie.Need-enum-told
+enum-told c = search needs
+
+returns : tie.Need-returns
+unfolding judgedEntries
+returns c =
+    let args = c .before .before .before .before .before .before .args in
+    let the-entries = c .before .entries in
+    let k = (clusterIn (args .n) (args .plants .now) (args .logs .now) (args .tracker .now)) in
+    the-entries .ensures
+    ∙ sym (then-stop (overEntries PrefixAgreement k) _ (λ e. no-pass (the-entries .result) (c .match .keys2) (the-entries .ensures ∙ e)))
+
+entries-requires-2 : tie.Need-entries-requires-2
+entries-requires-2 c κs = search needs
+
+enum-told-2 : tie.Need-enum-told-2
+enum-told-2 c = search needs
+
+returns-2 : tie.Need-returns-2
+unfolding judgedEntries
+returns-2 c =
+    let args = c .before .before .before .before .before .before .before .before .before .args in
+    let the-entries = c .before .before .before .before .entries in
+    let the-entries2 = c .before .entries2 in
+    let k = (clusterIn (args .n) (args .plants .now) (args .logs .now) (args .tracker .now)) in
+    the-entries2 .ensures
+    ∙ (sym (then-stop (overEntries NoDuplicates k) (overEntries Durability k) (λ e. no-pass (the-entries2 .result) (c .match2 .keys2)
+    (the-entries2 .ensures ∙ e)))
+    ∙ rw (sym (the-entries .ensures) ∙ c .before .before .enum-told .given .1))
+
+entries-requires-3 : tie.Need-entries-requires-3
+entries-requires-3 c κs = search needs
+
+returns-3 : tie.Need-returns-3
+unfolding judgedEntries
+returns-3 c =
+    let the-entries = c .before .before .before .before .before .before .entries in
+    let the-enum-told = c .before .before .before .before .enum-told in
+    c .entries3 .ensures ∙ rw (
+      sym (the-entries .ensures) ∙ the-enum-told .given .1,
+      sym (c .before .before .before .entries2 .ensures) ∙
+          c .before .enum-told2 .given .1,
+    )
+
+pub judge-entries-spec : {M : Type 1} → statement M
+judge-entries-spec =
+    tie.close
+    (tie.spec
+    needed-copies-requires
+    entries-requires
+    enum-told
+    returns
+    entries-requires-2
+    enum-told-2
+    returns-2
+    entries-requires-3
+    returns-3)
