@@ -23,7 +23,7 @@ ghost use Rattle.plants_words.specs.Calls.{newAnswer, newWords, applyAnswer, ap
 ghost use Rattle.properties_tracker.specs.Calls.{freshAnswer, freshWords, rebootAnswer, rebootWords};
 ghost use Rattle.properties_tick.specs.Calls.{tickAnswer, tickWords};
 ghost use Rattle.properties_end.specs.Calls.{endAnswer};
-ghost use Rattle.properties_words.specs.Told.{answerNumber, toldBy};
+ghost use Rattle.properties_words.specs.Told.{answerNumber, answerTold};
 ghost use Rattle.script_packed.specs.Packing.{answerWord};
 
 // ---- Fault scripts
@@ -373,7 +373,7 @@ pub extern "C" fn bellmantle_properties_tick(
 ) -> u64
     ensures answer { λ r. ⌜ r ≡ answerNumber (tickAnswer n (now (plants .entry)) (now (logs .entry)) (now (tracker .entry))) ⌝ }
     ensures tracker { λ _. ⌜ now (tracker .exit) ≡ tickWords n (now (plants .entry)) (now (logs .entry)) (now (tracker .entry)) ⌝ }
-    ensures told { λ _. ⌜ now (told .exit) ≡ toldBy (tickAnswer n (now (plants .entry)) (now (logs .entry)) (now (tracker .entry))) (now (told .entry)) ⌝ }
+    ensures told { λ _. ⌜ now (told .exit) ≡ answerTold (tickAnswer n (now (plants .entry)) (now (logs .entry)) (now (tracker .entry))) (now (told .entry)) ⌝ }
 {
     properties_words::tick(n, plants, logs, tracker, told)
 }
@@ -390,7 +390,7 @@ pub extern "C" fn bellmantle_properties_end(
     told: &mut [u64; properties_words::ANSWER_WORDS],
 ) -> u64
     ensures answer { λ r. ⌜ r ≡ answerNumber (endAnswer n (now (plants .entry)) (now (logs .entry)) (now (values .entry)) (now (core .entry)) (now (tracker .entry))) ⌝ }
-    ensures told { λ _. ⌜ now (told .exit) ≡ toldBy (endAnswer n (now (plants .entry)) (now (logs .entry)) (now (values .entry)) (now (core .entry)) (now (tracker .entry))) (now (told .entry)) ⌝ }
+    ensures told { λ _. ⌜ now (told .exit) ≡ answerTold (endAnswer n (now (plants .entry)) (now (logs .entry)) (now (values .entry)) (now (core .entry)) (now (tracker .entry))) (now (told .entry)) ⌝ }
 {
     properties_words::end(n, plants, logs, values, core, tracker, told)
 }

@@ -4,7 +4,7 @@ use mathlib.Core.Bool.{Bool, cond}
 use Prim.Native.Nat.{ℕ, zero, suc, _-_}
 use lib.Dec.{ltb}
 use lib.ListN.{length, getD}
-use Rattle.properties_snapshots.specs.Cluster.{Entry, Cluster, sameEntry, noEntry, plant, entry}
+use Rattle.properties_snapshots.specs.Cluster.{LogEntry, Cluster, sameEntry, noEntry, plant, entry}
 
 -- the first plant, from q on, that has committed index i; after k of them the next one is not asked
 unfoldable pub committerFrom : Cluster → ℕ → ℕ → ℕ → ℕ
@@ -16,7 +16,7 @@ unfoldable pub committer : Cluster → ℕ → ℕ
 committer c i = committerFrom c i 0 (c .size - 1)
 
 -- the canonical entry at an index that is committed: the one remembered, or else that of the first plant to have committed it, which appends it
-unfoldable pub canonicalEntry : Cluster → ℕ → Entry
+unfoldable pub canonicalEntry : Cluster → ℕ → LogEntry
 canonicalEntry c i =
     cond (ltb i (length (c .tracker .canonical))) (getD (c .tracker .canonical) i noEntry) (entry c (committer c i) i)
 

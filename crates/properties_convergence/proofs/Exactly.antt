@@ -10,7 +10,7 @@ use lib.Dec.{eqb}
 use lib.IntN.{ℤ, pos, ℤ-discrete}
 use lib.ListN.{length, getD}
 use lib.Seq.{ext-getD}
-use Rattle.properties_snapshots.specs.Cluster.{Entry, Cluster, sameEntry, noEntry, plant, entry}
+use Rattle.properties_snapshots.specs.Cluster.{LogEntry, Cluster, sameEntry, noEntry, plant, entry}
 use Rattle.properties_snapshots.proofs.Same.{same-entries, entries-same}
 use Rattle.properties_verdicts.specs.Verdicts.{firstOf, firstFailed, atEntry}
 use Rattle.properties_verdicts.proofs.First.{broken-no-pass, then-pass, test-holds, first-pass}
@@ -64,7 +64,7 @@ module _ (c : Cluster) (values : List ℤ) (reference id : ℕ) where
         eq-eqb (length (plant c id .log)) (length (plant c reference .log)) (ap length (a .log)),
         all-pass compared 0 (length (plant c id .log))
             (λ i b d. rw (entries-same (getD (plant c id .log) i noEntry) (getD (plant c reference .log) i noEntry)
-            (ap (λ (l : List Entry). getD l i noEntry) (a .log)))),
+            (ap (λ (l : List LogEntry). getD l i noEntry) (a .log)))),
         eq-eqb (plant c id .commit) (length (plant c id .log)) (a .committed),
         told-same (ℤ-discrete (getD values id (pos 0)) (getD values reference (pos 0))) (a .value),
       )

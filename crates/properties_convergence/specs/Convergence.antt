@@ -11,12 +11,12 @@ use Rattle.properties_verdicts.specs.declared.Answer.{Answer}
 use Rattle.properties_verdicts.specs.declared.Property.the-variants.{Convergence}
 
 -- two values are equal
-abbrev pub decided : {A : Type 0} → Dec A → Bool
-decided (yes e) = true
-decided (no e) = false
+abbrev pub isYes : {A : Type 0} → Dec A → Bool
+isYes (yes e) = true
+isYes (no e) = false
 
 unfoldable pub sameValue : ℤ → ℤ → Bool
-sameValue a b = decided (ℤ-discrete a b)
+sameValue a b = isYes (ℤ-discrete a b)
 
 -- the tests of the plant `id` against the first of the core: length, entries, commit = length, value
 unfoldable pub convergedWith : Cluster → List ℤ → ℕ → ℕ → Answer

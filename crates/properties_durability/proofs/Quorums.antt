@@ -8,7 +8,7 @@ use Prim.Native.Nat.{ℕ, zero, suc, _+_, _≤_, _<_}
 use lib.Dec.{ltb}
 use lib.ListN.{length}
 use Rattle.properties_snapshots.specs.Below.{countBelow}
-use Rattle.properties_snapshots.specs.Cluster.{Entry, Cluster, sameEntry, plant, entry}
+use Rattle.properties_snapshots.specs.Cluster.{LogEntry, Cluster, sameEntry, plant, entry}
 use Rattle.basis.specs.Basis.{quorum}
 use Rattle.basis.proofs.Laws.{both}
 use Rattle.properties_durability.specs.Durability.{participants, neededCopies, holdsCopy, copiesOf, durable}
@@ -36,7 +36,7 @@ shared (suc n) f g whole a b h =
     go false false false e d w more k = more (omega arith)
 
 -- who holds a copy takes part
-holder : (c : Cluster) (i : ℕ) (e : Entry) (q : ℕ) → holdsCopy c i e q ≡ true → not (plant c q .recovering) ≡ true
+holder : (c : Cluster) (i : ℕ) (e : LogEntry) (q : ℕ) → holdsCopy c i e q ≡ true → not (plant c q .recovering) ≡ true
 unfolding holdsCopy
 holder c i e q h =
     both (not (plant c q .recovering)) (ltb i (length (plant c q .log)))

@@ -5,7 +5,7 @@ use lib.Dec.{leb, ltb}
 use lib.ListN.{length}
 use Rattle.basis.specs.Basis.{quorum}
 use Rattle.properties_snapshots.specs.Below.{countBelow}
-use Rattle.properties_snapshots.specs.Cluster.{Entry, Cluster, sameEntry, plant, entry}
+use Rattle.properties_snapshots.specs.Cluster.{LogEntry, Cluster, sameEntry, plant, entry}
 
 -- the plants that are not recovering
 unfoldable pub participants : Cluster → ℕ
@@ -16,7 +16,7 @@ abbrev pub neededCopies : ℕ → ℕ → ℕ
 neededCopies n taking = taking + 1 - quorum n
 
 -- plant q holds a copy: it takes part, and its log reaches the index with an equal entry there
-unfoldable pub holdsCopy : Cluster → ℕ → Entry → ℕ → Bool
+unfoldable pub holdsCopy : Cluster → ℕ → LogEntry → ℕ → Bool
 holdsCopy c i e q = not (plant c q .recovering) && ltb i (length (plant c q .log)) && sameEntry (entry c q i) e
 
 -- the copies of the entry of plant r at index i

@@ -9,7 +9,7 @@ use Prim.Native.Nat.{ℕ, zero, suc, _+_, _-_, _*_, _≤_, _<_}
 use lib.ListN.{length, getD}
 use lib.Seq.{getD-append-add, set-getD}
 use Rattle.properties_snapshots.specs.Below.{numbered}
-use Rattle.properties_snapshots.specs.Cluster.{Entry, Cluster, wordsOfEntry, wordsOf, noEntry, plant, entry, last, entryIn, trackerIn, clusterIn}
+use Rattle.properties_snapshots.specs.Cluster.{LogEntry, Cluster, wordsOfEntry, wordsOfEntries, noEntry, plant, entry, last, entryIn, trackerIn, clusterIn}
 use Rattle.basis.specs.Basis.{laid}
 use Rattle.properties_snapshots.specs.Layout.{entryWords, idAt, logEntries, commitAt, entryAt, countAt, lengthAt, lastsAt, lastAt, canonicalAt, seenAt, trackerWords}
 use Rattle.properties_snapshots.specs.Shape.{Snapshot, Tracked, Forward}
@@ -22,15 +22,15 @@ use Rattle.properties_remembering.specs.Remembering.{lengthAfter, append
 use Rattle.properties_remembering.proofs.Written.{length-words, ids-held, ids-kept, length-held}
 
 -- the entries in their words
-words-at : (es : List Entry) (k : ℕ) → k < length es → entryIn (wordsOf es) (k * entryWords) ≡ getD es k noEntry
-unfolding wordsOf
+words-at : (es : List LogEntry) (k : ℕ) → k < length es → entryIn (wordsOfEntries es) (k * entryWords) ≡ getD es k noEntry
+unfolding wordsOfEntries
 words-at [] k h = absurd (omega arith)
 words-at (e ∷ es) zero h = refl
 words-at (e ∷ es) (suc k) h =
-    same-words (wordsOfEntry e ++ wordsOf es) (wordsOf es) (suc k * entryWords) (k * entryWords)
+    same-words (wordsOfEntry e ++ wordsOfEntries es) (wordsOfEntries es) (suc k * entryWords) (k * entryWords)
     (λ m g.
     let z : suc k * entryWords + m ≡ entryWords + (k * entryWords + m) = omega arith in
-    ap (λ (j : ℕ). getD (wordsOfEntry e ++ wordsOf es) j 0) z ∙ getD-append-add (wordsOfEntry e) (wordsOf es) (k * entryWords + m) 0)
+    ap (λ (j : ℕ). getD (wordsOfEntry e ++ wordsOfEntries es) j 0) z ∙ getD-append-add (wordsOfEntry e) (wordsOfEntries es) (k * entryWords + m) 0)
     ∙ words-at es k (omega arith)
 
 module _ (n : ℕ) (p l t : List ℕ) (s : Snapshot n p l) (k : Tracked n t) (f : Forward n p t) where
@@ -62,17 +62,17 @@ module _ (n : ℕ) (p l t : List ℕ) (s : Snapshot n p l) (k : Tracked n t) (f 
       ∙ ap (λ (j : ℕ). lengthAfter c - j) (canonical-long n p l t)
 
   -- the place and the number of the words appended
-  appended-words : length (wordsOf (appended c)) ≡ (lengthAfter c - getD t lengthAt 0) * entryWords
+  appended-words : length (wordsOfEntries (appended c)) ≡ (lengthAfter c - getD t lengthAt 0) * entryWords
   appended-words = length-words (appended c) ∙ ap (λ (j : ℕ). j * entryWords) appended-long
 
-  listed-is : listed ≡ laid seen (canonicalAt n (getD t lengthAt 0)) (wordsOf (appended c))
+  listed-is : listed ≡ laid seen (canonicalAt n (getD t lengthAt 0)) (wordsOfEntries (appended c))
   unfolding withEntries
-  listed-is = ap (λ (j : ℕ). laid seen (canonicalAt n j) (wordsOf (appended c))) (canonical-long n p l t)
+  listed-is = ap (λ (j : ℕ). laid seen (canonicalAt n j) (wordsOfEntries (appended c))) (canonical-long n p l t)
 
   listed-long : length listed ≡ trackerWords n
   listed-long =
       ap length listed-is
-      ∙ (length-laid seen (canonicalAt n (getD t lengthAt 0)) (wordsOf (appended c)) (omega (arith, appended-words, reach, seen-long)) ∙ seen-long)
+      ∙ (length-laid seen (canonicalAt n (getD t lengthAt 0)) (wordsOfEntries (appended c)) (omega (arith, appended-words, reach, seen-long)) ∙ seen-long)
 
   abbrev front : List ℕ
   front = lengthAfter c ∷ numbered n (λ r. plant c r .commit)
@@ -102,7 +102,7 @@ module _ (n : ℕ) (p l t : List ℕ) (s : Snapshot n p l) (k : Tracked n t) (f 
   after-count =
       laid-below listed lengthAt front countAt 0 (omega arith) (omega (arith, listed-long))
       ∙ (ap (λ (w : List ℕ). getD w countAt 0) listed-is
-      ∙ (laid-below seen (canonicalAt n (getD t lengthAt 0)) (wordsOf (appended c)) countAt 0 (omega arith) (omega (arith, seen-long, k .canonical))
+      ∙ (laid-below seen (canonicalAt n (getD t lengthAt 0)) (wordsOfEntries (appended c)) countAt 0 (omega arith) (omega (arith, seen-long, k .canonical))
       ∙ ids-kept n p l t s k f n (omega arith) .1 countAt (omega arith)))
 
   -- a tracker that fits does so after a pass
@@ -128,20 +128,20 @@ module _ (n : ℕ) (p l t : List ℕ) (s : Snapshot n p l) (k : Tracked n t) (f 
       (λ m g.
       behind (canonicalAt n i + m) (omega arith)
       ∙ (ap (λ (w : List ℕ). getD w (canonicalAt n i + m) 0) listed-is
-      ∙ (laid-below seen (canonicalAt n (getD t lengthAt 0)) (wordsOf (appended c)) (canonicalAt n i + m) 0 (omega arith) (omega (arith, seen-long, k .canonical))
+      ∙ (laid-below seen (canonicalAt n (getD t lengthAt 0)) (wordsOfEntries (appended c)) (canonicalAt n i + m) 0 (omega arith) (omega (arith, seen-long, k .canonical))
       ∙ ids-kept n p l t s k f n (omega arith) .1 (canonicalAt n i + m) (omega (arith, k .canonical)))))
 
   -- an entry that is appended
   new-entry : (i : ℕ) → getD t lengthAt 0 ≤ i → i < lengthAfter c
-      → entryIn (remembered c t) (canonicalAt n i) ≡ entryIn (wordsOf (appended c)) ((i - getD t lengthAt 0) * entryWords)
+      → entryIn (remembered c t) (canonicalAt n i) ≡ entryIn (wordsOfEntries (appended c)) ((i - getD t lengthAt 0) * entryWords)
   new-entry i h g =
-      same-words (remembered c t) (wordsOf (appended c)) (canonicalAt n i) ((i - getD t lengthAt 0) * entryWords)
+      same-words (remembered c t) (wordsOfEntries (appended c)) (canonicalAt n i) ((i - getD t lengthAt 0) * entryWords)
       (λ m o.
       let z : canonicalAt n i + m ≡ canonicalAt n (getD t lengthAt 0) + ((i - getD t lengthAt 0) * entryWords + m) = omega arith in
       behind (canonicalAt n i + m) (omega arith)
       ∙ (ap (λ (w : List ℕ). getD w (canonicalAt n i + m) 0) listed-is
-      ∙ (ap (λ (j : ℕ). getD (laid seen (canonicalAt n (getD t lengthAt 0)) (wordsOf (appended c))) j 0) z
-      ∙ laid-within seen (canonicalAt n (getD t lengthAt 0)) (wordsOf (appended c)) ((i - getD t lengthAt 0) * entryWords + m) (omega (arith, appended-words))
+      ∙ (ap (λ (j : ℕ). getD (laid seen (canonicalAt n (getD t lengthAt 0)) (wordsOfEntries (appended c))) j 0) z
+      ∙ laid-within seen (canonicalAt n (getD t lengthAt 0)) (wordsOfEntries (appended c)) ((i - getD t lengthAt 0) * entryWords + m) (omega (arith, appended-words))
       (omega (arith, seen-long, k .canonical)))))
 
   appended-at : (i : ℕ) → getD t lengthAt 0 ≤ i → i < lengthAfter c → getD (appended c) (i - getD t lengthAt 0) noEntry ≡ canonicalEntry c i
@@ -216,7 +216,7 @@ module _ (n : ℕ) (p l t : List ℕ) (s : Snapshot n p l) (k : Tracked n t) (f 
     from-ids =
         behind (seenAt n r i) (omega arith)
         ∙ (ap (λ (w : List ℕ). getD w (seenAt n r i) 0) listed-is
-        ∙ laid-above seen (canonicalAt n (getD t lengthAt 0)) (wordsOf (appended c)) (seenAt n r i)
+        ∙ laid-above seen (canonicalAt n (getD t lengthAt 0)) (wordsOfEntries (appended c)) (seenAt n r i)
         (omega (arith, appended-words, reach)) (omega (arith, appended-words, reach, seen-long)))
 
     -- an id newly seen, and one that stays
@@ -264,11 +264,11 @@ module _ (n : ℕ) (p l t : List ℕ) (s : Snapshot n p l) (k : Tracked n t) (f 
           max-bound n (λ r. getD p (commitAt r) 0) (getD t lengthAt 0) (getD t lengthAt 0) (omega arith) (λ r h. omega (arith, still r h, k .lasts r h)),
         )
 
-    none-appended : wordsOf (appended c) ≡ []
-    unfolding appended wordsOf
+    none-appended : wordsOfEntries (appended c) ≡ []
+    unfolding appended wordsOfEntries
     none-appended =
         let z : lengthAfter c - length (c .tracker .canonical) ≡ 0 = omega (arith, as-long, canonical-long n p l t) in
-        ap wordsOf
+        ap wordsOfEntries
         (ap (λ (j : ℕ). numbered j (λ j. canonicalEntry c (length (c .tracker .canonical) + j))) z
         ∙ numbered-none (λ j. canonicalEntry c (length (c .tracker .canonical) + j)))
 

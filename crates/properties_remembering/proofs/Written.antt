@@ -7,7 +7,7 @@ use mathlib.Core.Path.{_≡_, refl, sym, ap, _∙_}
 use Prim.Native.Nat.{ℕ, zero, suc, _+_, _-_, _*_, _≤_, _<_}
 use lib.ListN.{length, getD, length-append}
 use Rattle.properties_snapshots.specs.Below.{numbered, maxBelow}
-use Rattle.properties_snapshots.specs.Cluster.{Entry, wordsOfEntry, wordsOf, plant, entry, last, entryIn, clusterIn}
+use Rattle.properties_snapshots.specs.Cluster.{LogEntry, wordsOfEntry, wordsOfEntries, plant, entry, last, entryIn, clusterIn}
 use Rattle.properties_snapshots.specs.Layout.{entryWords, idAt, commitAt, entryAt, lengthAt, lastAt, seenAt}
 use Rattle.properties_snapshots.specs.Shape.{Snapshot, Tracked, Forward}
 use Rattle.properties_snapshots.proofs.Below.{length-numbered, numbered-same, max-same, max-reached}
@@ -17,16 +17,16 @@ use Rattle.properties_agreement.specs.Agreement.{committer, canonicalEntry}
 use Rattle.properties_agreement.proofs.Reached.{committed-entry}
 use Rattle.properties_remembering.specs.Remembering.{lengthAfter, appended, newIds, withIds}
 
-pub length-words : (es : List Entry) → length (wordsOf es) ≡ length es * entryWords
-unfolding wordsOf
+pub length-words : (es : List LogEntry) → length (wordsOfEntries es) ≡ length es * entryWords
+unfolding wordsOfEntries
 length-words [] = refl
-length-words (e ∷ es) = omega (arith, length-append (wordsOfEntry e) (wordsOf es), length-words es)
+length-words (e ∷ es) = omega (arith, length-append (wordsOfEntry e) (wordsOfEntries es), length-words es)
 
-pub words-more : (es : List Entry) (e : Entry) → wordsOf (es ++ (e ∷ [])) ≡ wordsOf es ++ wordsOfEntry e
-unfolding wordsOf
+pub words-more : (es : List LogEntry) (e : LogEntry) → wordsOfEntries (es ++ (e ∷ [])) ≡ wordsOfEntries es ++ wordsOfEntry e
+unfolding wordsOfEntries
 words-more [] e = refl
 words-more (x ∷ es) e =
-    ap (λ (w : List ℕ). wordsOfEntry x ++ w) (words-more es e) ∙ sym (append-assoc (wordsOfEntry x) (wordsOf es) (wordsOfEntry e))
+    ap (λ (w : List ℕ). wordsOfEntry x ++ w) (words-more es e) ∙ sym (append-assoc (wordsOfEntry x) (wordsOfEntries es) (wordsOfEntry e))
 
 module _ (n : ℕ) (p l t : List ℕ) (s : Snapshot n p l) (k : Tracked n t) (f : Forward n p t) where
   -- the ids of plant r, in words
@@ -39,7 +39,7 @@ module _ (n : ℕ) (p l t : List ℕ) (s : Snapshot n p l) (k : Tracked n t) (f 
       rw (commit-held n p l t r h, last-held n p l t r h)
       (numbered-same (getD p (commitAt r) 0 - getD t (lastAt r) 0) (λ j. entry c r (getD t (lastAt r) 0 + j) .id)
       (λ j. getD l (idAt (entryAt r (getD t (lastAt r) 0 + j))) 0)
-      (λ j g. ap (λ (e : Entry). e .id) (entry-held n p l t r h (getD t (lastAt r) 0 + j) (omega (arith, f .within r h)))))
+      (λ j g. ap (λ (e : LogEntry). e .id) (entry-held n p l t r h (getD t (lastAt r) 0 + j) (omega (arith, f .within r h)))))
 
   -- the ids lie in the last part: the words before it stay
   pub ids-kept : (r : ℕ) → r ≤ n

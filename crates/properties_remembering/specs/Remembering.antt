@@ -4,7 +4,7 @@ use mathlib.Core.List.{List, _∷_}
 use Prim.Native.Nat.{ℕ, zero, suc, _+_, _-_}
 use lib.ListN.{length}
 use Rattle.properties_snapshots.specs.Below.{numbered, maxBelow}
-use Rattle.properties_snapshots.specs.Cluster.{Entry, Cluster, wordsOf, plant, entry, last}
+use Rattle.properties_snapshots.specs.Cluster.{LogEntry, Cluster, wordsOfEntries, plant, entry, last}
 use Rattle.basis.specs.Basis.{laid}
 use Rattle.properties_snapshots.specs.Layout.{lengthAt, canonicalAt, seenAt}
 use Rattle.properties_agreement.specs.Agreement.{canonicalEntry}
@@ -13,7 +13,7 @@ use Rattle.properties_agreement.specs.Agreement.{canonicalEntry}
 unfoldable pub lengthAfter : Cluster → ℕ
 lengthAfter c = maxBelow (c .size) (λ r. plant c r .commit) (length (c .tracker .canonical))
 
-unfoldable pub appended : Cluster → List Entry
+unfoldable pub appended : Cluster → List LogEntry
 appended c =
     numbered (lengthAfter c - length (c .tracker .canonical)) (λ k. canonicalEntry c (length (c .tracker .canonical) + k))
 
@@ -28,7 +28,7 @@ withIds c (suc r) t = laid (withIds c r t) (seenAt (c .size) r (last c r)) (newI
 
 -- with the appended entries, behind the canonical ones
 unfoldable pub withEntries : Cluster → List ℕ → List ℕ
-withEntries c t = laid t (canonicalAt (c .size) (length (c .tracker .canonical))) (wordsOf (appended c))
+withEntries c t = laid t (canonicalAt (c .size) (length (c .tracker .canonical))) (wordsOfEntries (appended c))
 
 -- with the canonical length and the last commits
 unfoldable pub withCommits : Cluster → List ℕ → List ℕ

@@ -4,7 +4,7 @@ ghost use mathlib.Core.Path.{_≡_};
 ghost use Prim.Native.Nat.{ℕ, _+_, _-_, _*_, _≤_, _<_};
 ghost use lib.ListN.{length, getD};
 ghost use Rattle.properties_snapshots.specs.Below.{numbered, maxBelow};
-ghost use Rattle.properties_snapshots.specs.Cluster.{wordsOfEntry, wordsOf, entryIn, clusterIn};
+ghost use Rattle.properties_snapshots.specs.Cluster.{wordsOfEntry, wordsOfEntries, entryIn, clusterIn};
 ghost use Rattle.basis.specs.Basis.{fewest, most, laid};
 ghost use Rattle.properties_snapshots.specs.Layout.{logWords, plantWords, commitAt, entryAt, lengthAt, canonicalAt, seenAt, trackerWords, entryWords, logEntries};
 ghost use Rattle.properties_snapshots.specs.Shape.{Snapshot, Tracked, Forward};
@@ -73,7 +73,7 @@ fn put_plant_ids(n: usize, r: usize, last: usize, commit: usize, logs: &[u64], t
 fn append(n: usize, plants: &[u64], logs: &[u64], tracker: &mut [u64], known: usize, longest: usize)
     requires { ⌜ (fewest ≤ n) × (n ≤ most) × (length (now plants) ≡ n * plantWords) × (length (now logs) ≡ n * logWords) × (length (now tracker) ≡ trackerWords n) ⌝ }
     requires { ⌜ (known ≤ longest) × (longest ≤ logEntries) ⌝ }
-    ensures { λ _. ⌜ ((t : List ℕ) → now (tracker .exit) ≡ laid (now (tracker .entry)) (canonicalAt n known) (wordsOf (numbered (longest - known) (λ k. entryIn (now (logs .entry)) (entryAt (committer (clusterIn n (now (plants .entry)) (now (logs .entry)) t) (known + k)) (known + k)))))) ⌝ }
+    ensures { λ _. ⌜ ((t : List ℕ) → now (tracker .exit) ≡ laid (now (tracker .entry)) (canonicalAt n known) (wordsOfEntries (numbered (longest - known) (λ k. entryIn (now (logs .entry)) (entryAt (committer (clusterIn n (now (plants .entry)) (now (logs .entry)) t) (known + k)) (known + k)))))) ⌝ }
 {
     let mut i = known;
     while i < longest {

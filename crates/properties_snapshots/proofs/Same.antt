@@ -8,11 +8,11 @@ use Prim.Native.Nat.{ℕ, _+_, _<_}
 use lib.Dec.{eqb, lit<}
 use lib.ListN.{getD}
 use Rattle.properties_snapshots.specs.Below.{numbered, allBelow}
-use Rattle.properties_snapshots.specs.Cluster.{Entry, sameEntry, wordsOfEntry, entryIn}
+use Rattle.properties_snapshots.specs.Cluster.{LogEntry, sameEntry, wordsOfEntry, entryIn}
 use Rattle.properties_snapshots.specs.Layout.{entryWords}
 use Rattle.basis.proofs.Laws.{both}
 
-pub same-entries : (a b : Entry) → sameEntry a b ≡ true → a ≡ b
+pub same-entries : (a b : LogEntry) → sameEntry a b ≡ true → a ≡ b
 unfolding sameEntry
 same-entries a b e =
     let x = both (eqb (a .client) (b .client) && eqb (a .request) (b .request) && eqb (a .id) (b .id)) (eqb (a .body) (b .body)) e in
@@ -24,14 +24,14 @@ same-entries a b e =
     let body = eqb-true (a .body) (b .body) (x .1) in
     λ i. record { client = client i; request = request i; id = id i; body = body i }
 
-pub entries-same : (a b : Entry) → a ≡ b → sameEntry a b ≡ true
+pub entries-same : (a b : LogEntry) → a ≡ b → sameEntry a b ≡ true
 unfolding sameEntry
 entries-same a b e =
     rw (
-      eq-eqb (a .client) (b .client) (ap (λ (x : Entry). x .client) e),
-      eq-eqb (a .request) (b .request) (ap (λ (x : Entry). x .request) e),
-      eq-eqb (a .id) (b .id) (ap (λ (x : Entry). x .id) e),
-      eq-eqb (a .body) (b .body) (ap (λ (x : Entry). x .body) e),
+      eq-eqb (a .client) (b .client) (ap (λ (x : LogEntry). x .client) e),
+      eq-eqb (a .request) (b .request) (ap (λ (x : LogEntry). x .request) e),
+      eq-eqb (a .id) (b .id) (ap (λ (x : LogEntry). x .id) e),
+      eq-eqb (a .body) (b .body) (ap (λ (x : LogEntry). x .body) e),
     )
 
 -- an entry is its words

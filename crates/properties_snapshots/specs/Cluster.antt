@@ -9,7 +9,7 @@ use Rattle.properties_snapshots.specs.Below.{numbered}
 use Rattle.properties_snapshots.specs.Layout.{clientAt, requestAt, idAt, bodyAt, logEntries, recoveringAt, commitAt, opAt, sizeAt, entryAt, lengthAt, lastAt, canonicalAt, seenAt}
 
 -- a log entry: the request of a client, and the op that it asks for
-pub record Entry : Type 0 where
+pub record LogEntry : Type 0 where
   pub client : ℕ
   pub request : ℕ
   pub id : ℕ
@@ -20,11 +20,11 @@ pub record Plant : Type 0 where
   pub recovering : Bool
   pub commit : ℕ
   pub op : ℕ
-  pub log : List Entry
+  pub log : List LogEntry
 
 -- what is remembered: the union of all committed prefixes seen so far, and for each plant how many entries are verified, and their op ids
 pub record Tracker : Type 0 where
-  pub canonical : List Entry
+  pub canonical : List LogEntry
   pub lasts : List ℕ
   pub seen : List (List ℕ)
 
@@ -34,20 +34,20 @@ pub record Cluster : Type 0 where
   pub tracker : Tracker
 
 -- two entries are equal in every word
-unfoldable pub sameEntry : Entry → Entry → Bool
+unfoldable pub sameEntry : LogEntry → LogEntry → Bool
 sameEntry a b =
     eqb (a .client) (b .client) && eqb (a .request) (b .request) && eqb (a .id) (b .id) && eqb (a .body) (b .body)
 
 -- an entry's words
-abbrev pub wordsOfEntry : Entry → List ℕ
+abbrev pub wordsOfEntry : LogEntry → List ℕ
 wordsOfEntry e = e .client ∷ e .request ∷ e .id ∷ e .body ∷ []
 
-unfoldable pub wordsOf : List Entry → List ℕ
-wordsOf [] = []
-wordsOf (e ∷ es) = wordsOfEntry e ++ wordsOf es
+unfoldable pub wordsOfEntries : List LogEntry → List ℕ
+wordsOfEntries [] = []
+wordsOfEntries (e ∷ es) = wordsOfEntry e ++ wordsOfEntries es
 
 -- what stands where there is no entry or no plant; no answer depends on it
-abbrev pub noEntry : Entry
+abbrev pub noEntry : LogEntry
 noEntry = record { client = 0; request = 0; id = 0; body = 0 }
 
 abbrev pub noPlant : Plant
@@ -57,7 +57,7 @@ noPlant = record { recovering = false; commit = 0; op = 0; log = [] }
 unfoldable pub plant : Cluster → ℕ → Plant
 plant c r = getD (c .plants) r noPlant
 
-unfoldable pub entry : Cluster → ℕ → ℕ → Entry
+unfoldable pub entry : Cluster → ℕ → ℕ → LogEntry
 entry c r i = getD (plant c r .log) i noEntry
 
 unfoldable pub last : Cluster → ℕ → ℕ
@@ -67,7 +67,7 @@ unfoldable pub seenId : Cluster → ℕ → ℕ → ℕ
 seenId c r i = getD (getD (c .tracker .seen) r []) i 0
 
 -- the entry that stands from a place of the words on
-abbrev pub entryIn : List ℕ → ℕ → Entry
+abbrev pub entryIn : List ℕ → ℕ → LogEntry
 entryIn w b =
     record { client = getD w (clientAt b) 0; request = getD w (requestAt b) 0; id = getD w (idAt b) 0; body = getD w (bodyAt b) 0 }
 

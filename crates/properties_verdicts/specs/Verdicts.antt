@@ -19,11 +19,11 @@ propertyNumber NoDuplicates = 4
 propertyNumber Durability = 6
 propertyNumber Convergence = 7
 
-unfoldable pub refusalNumber : Refusal → ℕ
-refusalNumber PlantCount = 40
-refusalNumber NoSuchPlant = 41
-refusalNumber BadSnapshot = 60
-refusalNumber BadTracker = 61
+unfoldable pub propertiesRefusal : Refusal → ℕ
+propertiesRefusal PlantCount = 40
+propertiesRefusal NoSuchPlant = 41
+propertiesRefusal BadSnapshot = 60
+propertiesRefusal BadTracker = 61
 
 -- one answer and, if that is a pass, the next
 abbrev pub andThen : Answer → Answer → Answer

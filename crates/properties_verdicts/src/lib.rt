@@ -1,6 +1,6 @@
 // What a call about the properties answers: a pass, the first broken place, or why it was refused.
 ghost use mathlib.Core.Path.{_≡_};
-ghost use Rattle.properties_verdicts.specs.Verdicts.{propertyNumber, refusalNumber};
+ghost use Rattle.properties_verdicts.specs.Verdicts.{propertyNumber, propertiesRefusal};
 
 // The properties, by the Rust's names in short.
 pub enum Property {
@@ -46,7 +46,7 @@ pub fn property_number(property: Property) -> u64
 }
 
 pub fn refusal_number(refusal: Refusal) -> u64
-    ensures { λ r. ⌜ r ≡ refusalNumber refusal ⌝ }
+    ensures { λ r. ⌜ r ≡ propertiesRefusal refusal ⌝ }
 {
     match refusal {
         Refusal::PlantCount => 40,

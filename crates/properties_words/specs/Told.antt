@@ -2,7 +2,7 @@
 -- the words as they came. Assumes nothing.
 use Prim.Native.Nat.{ℕ}
 use mathlib.Core.List.{List, [], _∷_}
-use Rattle.properties_verdicts.specs.Verdicts.{propertyNumber, refusalNumber}
+use Rattle.properties_verdicts.specs.Verdicts.{propertyNumber, propertiesRefusal}
 use Rattle.properties_verdicts.specs.declared.Answer.{Answer}
 use Rattle.properties_verdicts.specs.declared.Answer.the-variants.{Pass, Broken, Refused}
 
@@ -13,9 +13,9 @@ answerWords = 4
 abbrev pub answerNumber : Answer → ℕ
 answerNumber Pass = 0
 answerNumber (Broken p r i t) = 0
-answerNumber (Refused e) = refusalNumber e
+answerNumber (Refused e) = propertiesRefusal e
 
-abbrev pub toldBy : Answer → List ℕ → List ℕ
-toldBy Pass told = 0 ∷ 0 ∷ 0 ∷ 0 ∷ []
-toldBy (Broken p r i t) told = propertyNumber p ∷ r ∷ i ∷ t ∷ []
-toldBy (Refused e) told = told
+abbrev pub answerTold : Answer → List ℕ → List ℕ
+answerTold Pass told = 0 ∷ 0 ∷ 0 ∷ 0 ∷ []
+answerTold (Broken p r i t) told = propertyNumber p ∷ r ∷ i ∷ t ∷ []
+answerTold (Refused e) told = told

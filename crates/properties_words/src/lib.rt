@@ -6,7 +6,7 @@ ghost use lib.ListN.{length};
 ghost use Rattle.properties_tracker.specs.Calls.{freshAnswer, freshWords, rebootAnswer, rebootWords};
 ghost use Rattle.properties_tick.specs.Calls.{tickAnswer, tickWords};
 ghost use Rattle.properties_end.specs.Calls.{endAnswer};
-ghost use Rattle.properties_words.specs.Told.{answerWords, answerNumber, toldBy};
+ghost use Rattle.properties_words.specs.Told.{answerWords, answerNumber, answerTold};
 
 // The words of an answer.
 pub const ANSWER_WORDS: usize = 4;
@@ -24,7 +24,7 @@ fn sized(told: &[u64; ANSWER_WORDS])
 // What a call answers, written to its four words.
 fn tell(answer: Answer, told: &mut [u64; ANSWER_WORDS]) -> u64
     ensures answer { λ r. ⌜ r ≡ answerNumber answer ⌝ }
-    ensures told { λ _. ⌜ now (told .exit) ≡ toldBy answer (now (told .entry)) ⌝ }
+    ensures told { λ _. ⌜ now (told .exit) ≡ answerTold answer (now (told .entry)) ⌝ }
 {
     sized(told);
     match answer {
@@ -93,7 +93,7 @@ pub fn tick(
 ) -> u64
     ensures answer { λ r. ⌜ r ≡ answerNumber (tickAnswer n (now (plants .entry)) (now (logs .entry)) (now (tracker .entry))) ⌝ }
     ensures tracker { λ _. ⌜ now (tracker .exit) ≡ tickWords n (now (plants .entry)) (now (logs .entry)) (now (tracker .entry)) ⌝ }
-    ensures told { λ _. ⌜ now (told .exit) ≡ toldBy (tickAnswer n (now (plants .entry)) (now (logs .entry)) (now (tracker .entry))) (now (told .entry)) ⌝ }
+    ensures told { λ _. ⌜ now (told .exit) ≡ answerTold (tickAnswer n (now (plants .entry)) (now (logs .entry)) (now (tracker .entry))) (now (told .entry)) ⌝ }
 {
     let answer = properties_tick::tick(n as usize, plants, logs, tracker);
     tell(answer, told)
@@ -110,7 +110,7 @@ pub fn end(
     told: &mut [u64; ANSWER_WORDS],
 ) -> u64
     ensures answer { λ r. ⌜ r ≡ answerNumber (endAnswer n (now (plants .entry)) (now (logs .entry)) (now (values .entry)) (now (core .entry)) (now (tracker .entry))) ⌝ }
-    ensures told { λ _. ⌜ now (told .exit) ≡ toldBy (endAnswer n (now (plants .entry)) (now (logs .entry)) (now (values .entry)) (now (core .entry)) (now (tracker .entry))) (now (told .entry)) ⌝ }
+    ensures told { λ _. ⌜ now (told .exit) ≡ answerTold (endAnswer n (now (plants .entry)) (now (logs .entry)) (now (values .entry)) (now (core .entry)) (now (tracker .entry))) (now (told .entry)) ⌝ }
 {
     let answer = properties_end::end(n as usize, plants, logs, values, core, tracker);
     tell(answer, told)

@@ -8,7 +8,7 @@ use Prim.Native.Nat.{ℕ, _-_, _≤_, _<_}
 use lib.Dec.{eqb}
 use lib.ListN.{getD}
 use Rattle.properties_snapshots.specs.Below.{allBelow}
-use Rattle.properties_snapshots.specs.Cluster.{Entry, entry, clusterIn}
+use Rattle.properties_snapshots.specs.Cluster.{LogEntry, entry, clusterIn}
 use Rattle.properties_snapshots.specs.Layout.{idAt, logEntries, commitAt, entryAt}
 use Rattle.properties_snapshots.specs.Shape.{Snapshot, Forward}
 use Rattle.properties_snapshots.proofs.Below.{all-none, all-more, all-false}
@@ -26,7 +26,7 @@ module _ (n : ℕ) (p l t : List ℕ) (s : Snapshot n p l) (f : Forward n p t) (
   within = omega (arith, s .sizes r h, f .within r h)
 
   the-id : entry (clusterIn n p l t) r i .id ≡ getD l (idAt (entryAt r i)) 0
-  the-id = ap (λ (e : Entry). e .id) (entry-held n p l t r h i (omega (arith, f .within r h)))
+  the-id = ap (λ (e : LogEntry). e .id) (entry-held n p l t r h i (omega (arith, f .within r h)))
 
   equal : (j x : ℕ) → x ≡ idOf (clusterIn n p l t) r j → x ≡ getD l (idAt (entryAt r i)) 0 → differs n p l t r i j ≡ false
   equal j x e g = rw (the-id, eq-eqb (idOf (clusterIn n p l t) r j) (getD l (idAt (entryAt r i)) 0) (sym e ∙ g))

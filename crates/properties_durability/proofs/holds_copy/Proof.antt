@@ -7,7 +7,7 @@ use mathlib.Core.List.{List}
 use mathlib.Core.Path.{_≡_, sym, _∙_}
 use Prim.Native.Nat.{ℕ, _+_, _*_, _≤_, _<_}
 use lib.ListN.{getD}
-use Rattle.properties_snapshots.specs.Cluster.{Entry, sameEntry, entryIn, clusterIn}
+use Rattle.properties_snapshots.specs.Cluster.{LogEntry, sameEntry, entryIn, clusterIn}
 use Rattle.properties_snapshots.specs.Layout.{entryWords, logWords, recoveringAt, sizeAt, entryAt}
 use Rattle.properties_snapshots.specs.Shape.{Snapshot}
 use Rattle.properties_snapshots.proofs.Held.{recovering-held, size-held, entry-held}
@@ -15,7 +15,7 @@ use Rattle.properties_durability.specs.Durability.{holdsCopy}
 use Rattle.properties_durability.proofs.holds_copy.Statement.{statement}
 use Rattle.properties_durability.proofs.holds_copy.Tie as tie
 
-module _ (n : ℕ) (p l t : List ℕ) (i q : ℕ) (e : Entry) (h : q < n) where
+module _ (n : ℕ) (p l t : List ℕ) (i q : ℕ) (e : LogEntry) (h : q < n) where
   away : getD p (recoveringAt q) 0 ≡ 1 → false ≡ holdsCopy (clusterIn n p l t) i e q
   unfolding holdsCopy
   away a = rw (recovering-held n p l t q h, eq-eqb (getD p (recoveringAt q) 0) 1 a)
@@ -25,7 +25,7 @@ module _ (n : ℕ) (p l t : List ℕ) (i q : ℕ) (e : Entry) (h : q < n) where
   short a k =
       rw (recovering-held n p l t q h, ne-eqb (getD p (recoveringAt q) 0) 1 a, size-held n p l t q h, le-ltb i (getD p (sizeAt q) 0) k)
 
-  there : (getD p (recoveringAt q) 0 ≡ 1 → ⊥) → i < getD p (sizeAt q) 0 → (f : Entry) → e ≡ f
+  there : (getD p (recoveringAt q) 0 ≡ 1 → ⊥) → i < getD p (sizeAt q) 0 → (f : LogEntry) → e ≡ f
       → sameEntry (entryIn l (entryAt q i)) f ≡ holdsCopy (clusterIn n p l t) i e q
   unfolding holdsCopy
   there a k f g =

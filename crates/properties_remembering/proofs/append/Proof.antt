@@ -5,7 +5,7 @@ use mathlib.Core.Path.{_≡_, refl, sym, ap, _∙_}
 use Prim.Native.Nat.{ℕ, _+_, _-_, _*_, _≤_, _<_}
 use lib.ListN.{length}
 use Rattle.properties_snapshots.specs.Below.{numbered}
-use Rattle.properties_snapshots.specs.Cluster.{Entry, wordsOfEntry, wordsOf, entryIn, clusterIn}
+use Rattle.properties_snapshots.specs.Cluster.{LogEntry, wordsOfEntry, wordsOfEntries, entryIn, clusterIn}
 use Rattle.basis.specs.Basis.{fewest, laid}
 use Rattle.properties_snapshots.specs.Layout.{entryWords, entryAt, canonicalAt}
 use Rattle.properties_snapshots.proofs.Below.{length-numbered, numbered-more, numbered-none}
@@ -17,30 +17,30 @@ use Rattle.properties_remembering.proofs.append.Statement.{statement}
 use Rattle.properties_remembering.proofs.append.Tie as tie
 
 -- the entry that is appended behind the first k of them
-abbrev source : ℕ → List ℕ → List ℕ → List ℕ → ℕ → ℕ → Entry
+abbrev source : ℕ → List ℕ → List ℕ → List ℕ → ℕ → ℕ → LogEntry
 source n p l t known k = entryIn l (entryAt (committer (clusterIn n p l t) (known + k)) (known + k))
 
 module _ (n : ℕ) (p l t w : List ℕ) (known i q from to : ℕ) (after : known ≤ i) (room : canonicalAt n known + (i - known) * entryWords + entryWords ≤ length w) where
   -- one entry more
   another : q ≡ committer (clusterIn n p l t) i → from ≡ entryAt q i → to ≡ canonicalAt n i
-      → laid (laid w (canonicalAt n known) (wordsOf (numbered (i - known) (source n p l t known)))) to (wordsOfEntry (entryIn l from))
-      ≡ laid w (canonicalAt n known) (wordsOf (numbered (i + 1 - known) (source n p l t known)))
+      → laid (laid w (canonicalAt n known) (wordsOfEntries (numbered (i - known) (source n p l t known)))) to (wordsOfEntry (entryIn l from))
+      ≡ laid w (canonicalAt n known) (wordsOfEntries (numbered (i + 1 - known) (source n p l t known)))
   another e f g =
       let m = i - known in
       let es = numbered m (source n p l t known) in
-      let long : length (wordsOf (numbered m (source n p l t known))) ≡ m * entryWords = length-words es ∙ ap (λ (k : ℕ). k * entryWords)
+      let long : length (wordsOfEntries (numbered m (source n p l t known))) ≡ m * entryWords = length-words es ∙ ap (λ (k : ℕ). k * entryWords)
       (length-numbered m (source n p l t known)) in
       let z : i ≡ known + m = omega arith in
       let y : m + 1 ≡ i + 1 - known = omega arith in
       let x : entryIn l from ≡ source n p l t known m =
       ap (λ (k : ℕ). entryIn l k) f ∙ (ap (λ (k : ℕ). entryIn l (entryAt k i)) e ∙ ap (λ (k : ℕ). entryIn l (entryAt (committer (clusterIn n p l t) k) k)) z) in
-      laid-on w (canonicalAt n known) (wordsOf es) (wordsOfEntry (entryIn l from)) to (omega arith) (omega arith)
-      ∙ (ap (λ (u : Entry). laid w (canonicalAt n known) (wordsOf es ++ wordsOfEntry u)) x
-      ∙ (ap (laid w (canonicalAt n known)) (sym (words-more es (source n p l t known m)) ∙ ap wordsOf (sym (numbered-more m (source n p l t known))))
-      ∙ ap (λ (k : ℕ). laid w (canonicalAt n known) (wordsOf (numbered k (source n p l t known)))) y))
+      laid-on w (canonicalAt n known) (wordsOfEntries es) (wordsOfEntry (entryIn l from)) to (omega arith) (omega arith)
+      ∙ (ap (λ (u : LogEntry). laid w (canonicalAt n known) (wordsOfEntries es ++ wordsOfEntry u)) x
+      ∙ (ap (laid w (canonicalAt n known)) (sym (words-more es (source n p l t known m)) ∙ ap wordsOfEntries (sym (numbered-more m (source n p l t known))))
+      ∙ ap (λ (k : ℕ). laid w (canonicalAt n known) (wordsOfEntries (numbered k (source n p l t known)))) y))
 
-nothing : (n : ℕ) (p l t w : List ℕ) (known : ℕ) → w ≡ laid w (canonicalAt n known) (wordsOf (numbered (known - known) (source n p l t known)))
-unfolding wordsOf
+nothing : (n : ℕ) (p l t w : List ℕ) (known : ℕ) → w ≡ laid w (canonicalAt n known) (wordsOfEntries (numbered (known - known) (source n p l t known)))
+unfolding wordsOfEntries
 nothing n p l t w known =
     let z : known - known ≡ 0 = omega arith in
     rw (z, numbered-none (source n p l t known)) (sym (laid-none w (canonicalAt n known)))
@@ -51,7 +51,7 @@ plant-of n p i q h e = omega (arith, e [] [], committer-below (clusterIn n p [] 
 
 abbrev Inv-loop : tie.InvT-loop
 Inv-loop n plants logs tracker₀ known longest i₀ tracker i = (known ≤ i) × (i ≤ longest) × (length tracker ≡ length tracker₀) ×
-    ((t : List ℕ) → tracker ≡ laid tracker₀ (canonicalAt n known) (wordsOf (numbered (i - known) (source n plants logs t known))))
+    ((t : List ℕ) → tracker ≡ laid tracker₀ (canonicalAt n known) (wordsOfEntries (numbered (i - known) (source n plants logs t known))))
 
 abbrev μ-loop : tie.MeasureT-loop
 μ-loop n plants logs tracker₀ known longest i₀ tracker i = longest - i
@@ -128,7 +128,7 @@ returns c =
     let l = c .before .loop in
     let z : l .i ≡ a .longest = omega arith in
     λ t. l .inv .3 t ∙ ap (λ (k : ℕ). laid (a .tracker .now) (canonicalAt (a .n) (a .known))
-    (wordsOf (numbered (k - a .known) (source (a .n) (a .plants .now) (a .logs .now) t (a .known))))) z
+    (wordsOfEntries (numbered (k - a .known) (source (a .n) (a .plants .now) (a .logs .now) t (a .known))))) z
 
 pub append-spec : {M : Type 1} → statement M
 append-spec =

@@ -6,7 +6,7 @@ use mathlib.Core.Path.{_≡_, sym, ap, _∙_}
 use Prim.Native.Nat.{ℕ, _+_, _-_, _≤_}
 use lib.ListN.{getD}
 use Rattle.properties_snapshots.specs.Below.{numbered, maxBelow}
-use Rattle.properties_snapshots.specs.Cluster.{wordsOf, plant, entryIn, clusterIn}
+use Rattle.properties_snapshots.specs.Cluster.{wordsOfEntries, plant, entryIn, clusterIn}
 use Rattle.basis.specs.Basis.{laid}
 use Rattle.properties_snapshots.specs.Layout.{logEntries, commitAt, entryAt, lengthAt, canonicalAt}
 use Rattle.properties_snapshots.specs.Shape.{Snapshot, Tracked, Forward}
@@ -27,7 +27,7 @@ module _ (n : ℕ) (p l t : List ℕ) (s : Snapshot n p l) (k : Tracked n t) (f 
   )
 
   all-written : (known : ℕ) (u v w : List ℕ) → known ≡ getD t lengthAt 0 → u ≡ withIds (clusterIn n p l t) n t
-      → v ≡ laid u (canonicalAt n known) (wordsOf (numbered (longest - known) (λ j. entryIn l
+      → v ≡ laid u (canonicalAt n known) (wordsOfEntries (numbered (longest - known) (λ j. entryIn l
       (entryAt (committer (clusterIn n p l t) (known + j)) (known + j)))))
       → w ≡ laid v lengthAt (longest ∷ numbered n (λ r. getD p (commitAt r) 0))
       → w ≡ remembered (clusterIn n p l t) t

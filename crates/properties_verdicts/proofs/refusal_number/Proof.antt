@@ -1,6 +1,6 @@
 -- `properties_verdicts::refusal_number` meets its contract, case by case. Assumes nothing.
 use borrow.Author.Needs.{needs}
-use Rattle.properties_verdicts.specs.Verdicts.{refusalNumber}
+use Rattle.properties_verdicts.specs.Verdicts.{propertiesRefusal}
 use Rattle.properties_verdicts.proofs.refusal_number.Statement.{statement}
 use Rattle.properties_verdicts.proofs.refusal_number.Tie as tie
 
@@ -17,19 +17,19 @@ enum-told-4 : tie.Need-enum-told-4
 enum-told-4 c = search needs
 
 returns : tie.Need-returns
-unfolding refusalNumber
+unfolding propertiesRefusal
 returns c = search needs
 
 returns-2 : tie.Need-returns-2
-unfolding refusalNumber
+unfolding propertiesRefusal
 returns-2 c = search needs
 
 returns-3 : tie.Need-returns-3
-unfolding refusalNumber
+unfolding propertiesRefusal
 returns-3 c = search needs
 
 returns-4 : tie.Need-returns-4
-unfolding refusalNumber
+unfolding propertiesRefusal
 returns-4 c = search needs
 
 pub refusal-number-spec : {M : Type 1} → statement M

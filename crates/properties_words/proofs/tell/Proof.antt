@@ -5,7 +5,7 @@ use mathlib.Core.List.{[], _∷_}
 use native.Mathlib.Omega.{arith}
 use lib.ListN.{length}
 use Rattle.properties_verdicts.specs.declared.Answer.{Answer}
-use Rattle.properties_words.specs.Told.{answerWords, answerNumber, toldBy}
+use Rattle.properties_words.specs.Told.{answerWords, answerNumber, answerTold}
 use Rattle.properties_words.proofs.Rows.{four}
 use borrow.Author.Needs.{needs}
 use Rattle.properties_words.proofs.tell.Statement.{statement}
@@ -58,7 +58,7 @@ returns c =
     let s = c .before .before .before .before in
     let h : length (s .args .told .now) ≡ answerWords = omega arith in (
       sym (ap answerNumber (c .enum-told .given .1)),
-      four (s .args .told .now) 0 0 0 0 h ∙ sym (ap (λ (a : Answer). toldBy a (s .args .told .now)) (c .enum-told .given .1)),
+      four (s .args .told .now) 0 0 0 0 h ∙ sym (ap (λ (a : Answer). answerTold a (s .args .told .now)) (c .enum-told .given .1)),
     )
 
 returns-2 : tie.Need-returns-2
@@ -69,14 +69,14 @@ returns-2 c =
       sym (ap answerNumber (a .1)),
       four (s .args .told .now) _ (a .0 .1 .0) (a .0 .1 .1 .0) (a .0 .1 .1 .1 .0) h
           ∙ (ap (λ (k : ℕ). k ∷ a .0 .1 .0 ∷ a .0 .1 .1 .0 ∷ a .0 .1 .1 .1 .0 ∷ []) (c .property-number .ensures)
-          ∙ sym (ap (λ (x : Answer). toldBy x (s .args .told .now)) (a .1))),
+          ∙ sym (ap (λ (x : Answer). answerTold x (s .args .told .now)) (a .1))),
     )
 
 returns-3 : tie.Need-returns-3
 returns-3 c =
     let a = c .before .before .answer2 .given in
     let s = c .before .before .before .before .before .before in
-    (c .refusal-number .ensures ∙ sym (ap answerNumber (a .1)), sym (ap (λ (x : Answer). toldBy x (s .args .told .now)) (a .1)))
+    (c .refusal-number .ensures ∙ sym (ap answerNumber (a .1)), sym (ap (λ (x : Answer). answerTold x (s .args .told .now)) (a .1)))
 
 pub tell-spec : {M : Type 1} → statement M
 tell-spec =
