@@ -210,18 +210,46 @@ uint64_t bellmantle_plants_choose_core(uint64_t words[49], const uint64_t *recov
 
 /* ---- Properties
  *
- * A snapshot of n plants is 4n words (for each: recovering, 0 or 1; commit; op number; log length) and 512n words of logs (an entry is
- * client, request, op id and op body, that of plant r and index i at 512r + 4i). A tracker is 514 + 129n words: n, the canonical
- * length, n last commits, 512 canonical words, 128n seen ids. Told: 0, or the number of the first broken property (1, 3, 4, 6, 7), the
- * plant, the index and the test. */
-enum {
-    BELLMANTLE_SNAPSHOT_PLANT_WORDS = 4,
-    BELLMANTLE_SNAPSHOT_LOG_WORDS = 512,
-    BELLMANTLE_SNAPSHOT_ENTRIES = 128,
-    BELLMANTLE_TOLD_PROPERTY = 0,
-    BELLMANTLE_TOLD_PLANT = 1,
+ * A snapshot of n plants is a row of plants and a row of logs; the tracker is a third row. */
+
+/* The plants: where each word stands, of plant r from BELLMANTLE_SNAPSHOT_PLANT_WORDS * r on. */
+enum bellmantle_snapshot_plant {
+    BELLMANTLE_PLANT_RECOVERING = 0, /* 0 or 1 */
+    BELLMANTLE_PLANT_COMMIT = 1,
+    BELLMANTLE_PLANT_OP = 2,         /* op number */
+    BELLMANTLE_PLANT_LOG_LENGTH = 3, /* entries in its log, BELLMANTLE_SNAPSHOT_ENTRIES at most */
+    BELLMANTLE_SNAPSHOT_PLANT_WORDS = 4
+};
+
+/* An entry: where each word stands. In the logs that of plant r and index i is from BELLMANTLE_SNAPSHOT_LOG_WORDS * r +
+ * BELLMANTLE_ENTRY_WORDS * i on. */
+enum bellmantle_entry {
+    BELLMANTLE_ENTRY_CLIENT = 0,
+    BELLMANTLE_ENTRY_REQUEST = 1,
+    BELLMANTLE_ENTRY_ID = 2,   /* op id */
+    BELLMANTLE_ENTRY_BODY = 3, /* op body */
+    BELLMANTLE_ENTRY_WORDS = 4,
+    BELLMANTLE_SNAPSHOT_ENTRIES = 128,  /* room in a log */
+    BELLMANTLE_SNAPSHOT_LOG_WORDS = 512 /* BELLMANTLE_SNAPSHOT_ENTRIES * BELLMANTLE_ENTRY_WORDS */
+};
+
+/* The tracker: where each part starts. Behind the last commits stand the canonical entries, that of index i from
+ * BELLMANTLE_TRACKER_LAST_COMMITS + n + BELLMANTLE_ENTRY_WORDS * i on, and behind those BELLMANTLE_SNAPSHOT_ENTRIES ids seen of each
+ * plant, that of plant r and index i at BELLMANTLE_TRACKER_LAST_COMMITS + n + BELLMANTLE_SNAPSHOT_LOG_WORDS +
+ * BELLMANTLE_SNAPSHOT_ENTRIES * r + i. In all it is 514 + 129n words. */
+enum bellmantle_tracker {
+    BELLMANTLE_TRACKER_N = 0,
+    BELLMANTLE_TRACKER_CANONICAL_LENGTH = 1,
+    BELLMANTLE_TRACKER_LAST_COMMITS = 2 /* one for each plant */
+};
+
+/* What a tick or an end call tells: zeros for a pass. */
+enum bellmantle_told {
+    BELLMANTLE_TOLD_PROPERTY = 0, /* the number of the first broken property: 1, 3, 4, 6 or 7 */
+    BELLMANTLE_TOLD_PLANT = 1,    /* its id */
     BELLMANTLE_TOLD_INDEX = 2,
-    BELLMANTLE_TOLD_TEST = 3
+    BELLMANTLE_TOLD_TEST = 3,
+    BELLMANTLE_TOLD_WORDS = 4
 };
 
 /* A fresh tracker: 40, 61. */
