@@ -14,7 +14,7 @@ pub const ENTRY: usize = 4;
 
 const ID: usize = 2;
 
-pub const ENTRIES: usize = 128;
+const ENTRIES: usize = 128;
 
 const LOG: usize = ENTRIES * ENTRY;
 

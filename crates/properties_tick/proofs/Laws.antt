@@ -13,8 +13,8 @@ use Rattle.properties_snapshots.specs.Layout.{logEntries, commitAt, lengthAt, l
 use Rattle.properties_snapshots.proofs.Below.{max-reaches}
 use Rattle.properties_snapshots.proofs.Held.{commit-held, last-held, seen-held}
 use Rattle.properties_snapshots.proofs.Same.{same-entries}
-use Rattle.properties_verdicts.specs.Verdicts.{andThen, atEntry, overCommitted}
-use Rattle.properties_verdicts.proofs.First.{then-pass, test-holds, first-pass}
+use Rattle.properties_verdicts.specs.Verdicts.{andThen}
+use Rattle.properties_verdicts.proofs.First.{then-pass}
 use Rattle.properties_commits.specs.Commits.{commitNumbers}
 use Rattle.properties_agreement.specs.Agreement.{canonicalEntry, agrees}
 use Rattle.properties_duplicates.specs.Duplicates.{idOf}
@@ -24,21 +24,11 @@ use Rattle.properties_durability.proofs.Quorums.{in-every-quorum}
 use Rattle.properties_remembering.specs.Remembering.{lengthAfter, remembered}
 use Rattle.properties_remembering.proofs.After.{after-length, after-canonical, after-new, after-old, nothing-written}
 use Rattle.properties_tick.specs.Calls.{tickRefusal, tickAnswer, tickWords}
-use Rattle.properties_tick.specs.Ticks.{named, asked, overEntries, judgedEntries, tickJudged}
+use Rattle.properties_judge.specs.Ticks.{overEntries, judgedEntries, tickJudged}
+use Rattle.properties_judge.proofs.Laws.{entry-passed}
 use Rattle.properties_tick.proofs.Passed.{tick-known}
 use Rattle.properties_verdicts.specs.declared.Answer.the-variants.{Pass}
-use Rattle.properties_tick.specs.declared.EntryProperty.{EntryProperty}
-use Rattle.properties_tick.specs.declared.EntryProperty.the-variants.{PrefixAgreement, NoDuplicates, Durability}
-
--- a property of entries that passes holds of each entry from last commit up
-pub entry-passed : (p : EntryProperty) (c : Cluster) → overEntries p c ≡ Pass
-    → (r i : ℕ) → r < c .size → last c r ≤ i → i < plant c r .commit → asked p c r i ≡ true
-unfolding overEntries
-entry-passed p c e r i h l g =
-    test-holds (named p) r i 1 (asked p c r i)
-    (first-pass (λ i. atEntry (named p) r i 1 (asked p c r i)) (last c r) (plant c r .commit - last c r)
-    (first-pass (λ r. overCommitted c r (λ i. atEntry (named p) r i 1 (asked p c r i))) 0 (c .size) e r (omega arith) (omega arith))
-    i l (omega arith))
+use Rattle.properties_judge.specs.declared.EntryProperty.the-variants.{PrefixAgreement, NoDuplicates, Durability}
 
 module _ (n : ℕ) (p l t : List ℕ) (pass : tickAnswer n p l t ≡ Pass) where
   abbrev c : Cluster

@@ -12,7 +12,7 @@ use Rattle.properties_verdicts.proofs.First.{then-pass, unless-known}
 use Rattle.properties_commits.specs.Commits.{commitNumbers}
 use Rattle.properties_commits.proofs.Forwards.{forward-known}
 use Rattle.properties_tick.specs.Calls.{tickRefusal, tickAnswer}
-use Rattle.properties_tick.specs.Ticks.{judgedEntries, tickJudged}
+use Rattle.properties_judge.specs.Ticks.{judgedEntries, tickJudged}
 use Rattle.properties_verdicts.specs.declared.Answer.the-variants.{Pass}
 use Rattle.properties_verdicts.specs.declared.Refusal.the-variants.{PlantCount, BadSnapshot, BadTracker}
 

@@ -7,7 +7,7 @@ use Rattle.properties_snapshots.specs.Cluster.{clusterIn}
 use Rattle.properties_snapshots.specs.Fits.{snapshotFits, trackerFits}
 use Rattle.properties_verdicts.specs.Verdicts.{andThen, unless, onPass}
 use Rattle.properties_remembering.specs.Remembering.{remembered}
-use Rattle.properties_tick.specs.Ticks.{tickJudged}
+use Rattle.properties_judge.specs.Ticks.{tickJudged}
 use Rattle.properties_verdicts.specs.declared.Answer.{Answer}
 use Rattle.properties_verdicts.specs.declared.Refusal.the-variants.{PlantCount, BadSnapshot, BadTracker}
 

@@ -11,7 +11,7 @@ use Rattle.basis.proofs.Laws.{between}
 use Rattle.properties_snapshots.specs.Fits.{snapshotFits, trackerFits}
 use Rattle.properties_snapshots.proofs.Known.{snapshot-known, tracker-known}
 use Rattle.properties_tick.specs.Calls.{tickRefusal, tickAnswer}
-use Rattle.properties_tick.specs.Ticks.{tickJudged}
+use Rattle.properties_judge.specs.Ticks.{tickJudged}
 use Rattle.properties_verdicts.specs.declared.Answer.the-variants.{Refused}
 use Rattle.properties_verdicts.specs.declared.Refusal.the-variants.{PlantCount, BadSnapshot, BadTracker}
 use Rattle.properties_tick.proofs.tick_answer.Statement.{statement}

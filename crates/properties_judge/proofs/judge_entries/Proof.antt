@@ -1,12 +1,12 @@
--- `properties_tick::judge_entries` meets its contract: the first answer that is no pass. Assumes nothing.
+-- `properties_judge::judge_entries` meets its contract: the first answer that is no pass. Assumes nothing.
 use borrow.Author.Needs.{needs}
 use mathlib.Core.Path.{sym, _∙_}
 use Rattle.properties_snapshots.specs.Cluster.{clusterIn}
 use Rattle.properties_verdicts.proofs.First.{no-pass, then-stop}
-use Rattle.properties_tick.specs.Ticks.{overEntries, judgedEntries}
-use Rattle.properties_tick.specs.declared.EntryProperty.the-variants.{PrefixAgreement, NoDuplicates, Durability}
-use Rattle.properties_tick.proofs.judge_entries.Statement.{statement}
-use Rattle.properties_tick.proofs.judge_entries.Tie as tie
+use Rattle.properties_judge.specs.Ticks.{overEntries, judgedEntries}
+use Rattle.properties_judge.specs.declared.EntryProperty.the-variants.{PrefixAgreement, NoDuplicates, Durability}
+use Rattle.properties_judge.proofs.judge_entries.Statement.{statement}
+use Rattle.properties_judge.proofs.judge_entries.Tie as tie
 
 needed-copies-requires : tie.Need-needed-copies-requires
 needed-copies-requires c κs = search needs

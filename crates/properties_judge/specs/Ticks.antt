@@ -9,8 +9,8 @@ use Rattle.properties_duplicates.specs.Duplicates.{unseen}
 use Rattle.properties_durability.specs.Durability.{durable}
 use Rattle.properties_verdicts.specs.declared.Answer.{Answer}
 use Rattle.properties_verdicts.specs.declared.Property as all
-use Rattle.properties_tick.specs.declared.EntryProperty.{EntryProperty}
-use Rattle.properties_tick.specs.declared.EntryProperty.the-variants.{PrefixAgreement, NoDuplicates, Durability}
+use Rattle.properties_judge.specs.declared.EntryProperty.{EntryProperty}
+use Rattle.properties_judge.specs.declared.EntryProperty.the-variants.{PrefixAgreement, NoDuplicates, Durability}
 
 -- the properties of entries by their names among all
 abbrev pub named : EntryProperty → all.Property

@@ -1,13 +1,13 @@
--- `properties_tick::judge` meets its contract: the first answer that is no pass. Assumes nothing.
+-- `properties_judge::judge` meets its contract: the first answer that is no pass. Assumes nothing.
 use borrow.Author.Needs.{needs}
 use mathlib.Core.Path.{sym, _∙_}
 use Rattle.properties_snapshots.specs.Cluster.{clusterIn}
 use Rattle.properties_verdicts.proofs.First.{no-pass, then-stop}
 use Rattle.properties_commits.specs.Commits.{commitNumbers}
 use Rattle.properties_commits.proofs.Forwards.{forward-known}
-use Rattle.properties_tick.specs.Ticks.{judgedEntries, tickJudged}
-use Rattle.properties_tick.proofs.judge.Statement.{statement}
-use Rattle.properties_tick.proofs.judge.Tie as tie
+use Rattle.properties_judge.specs.Ticks.{judgedEntries, tickJudged}
+use Rattle.properties_judge.proofs.judge.Statement.{statement}
+use Rattle.properties_judge.proofs.judge.Tie as tie
 
 commit-numbers-requires : tie.Need-commit-numbers-requires
 commit-numbers-requires c κs = search needs

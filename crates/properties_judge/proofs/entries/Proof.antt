@@ -1,4 +1,4 @@
--- `properties_tick::entries` meets its contract. The outer loop's invariant: what the plants from r on answer is what all answer; the inner one's:
+-- `properties_judge::entries` meets its contract. The outer loop's invariant: what the plants from r on answer is what all answer; the inner one's:
 -- what the entries from i on answer is what all of the plant's newly committed ones answer. Assumes nothing.
 use borrow.Author.Needs.{needs}
 use borrow.Author.Tests.{not-true, not-false}
@@ -11,13 +11,13 @@ use Rattle.properties_snapshots.specs.Cluster.{Cluster, clusterIn}
 use Rattle.properties_snapshots.proofs.Held.{commit-held, last-held}
 use Rattle.properties_verdicts.specs.Verdicts.{firstOf, atEntry, overCommitted}
 use Rattle.properties_verdicts.proofs.First.{broken-no-pass, first-on, first-stop, first-end}
-use Rattle.properties_tick.specs.Ticks.{named, asked, overEntries}
+use Rattle.properties_judge.specs.Ticks.{named, asked, overEntries}
 use Rattle.properties_verdicts.specs.declared.Answer.{Answer}
 use Rattle.properties_verdicts.specs.declared.Answer.the-variants.{Broken}
 use Rattle.properties_verdicts.specs.declared.Property.{Property}
-use Rattle.properties_tick.specs.declared.EntryProperty.{EntryProperty}
-use Rattle.properties_tick.proofs.entries.Statement.{statement}
-use Rattle.properties_tick.proofs.entries.Tie as tie
+use Rattle.properties_judge.specs.declared.EntryProperty.{EntryProperty}
+use Rattle.properties_judge.proofs.entries.Statement.{statement}
+use Rattle.properties_judge.proofs.entries.Tie as tie
 
 -- an entry's answer, and a plant's
 abbrev at : EntryProperty → Cluster → ℕ → ℕ → Answer

@@ -1,9 +1,9 @@
--- `properties_tick::entry_holds` meets its contract, property by property. Assumes nothing.
+-- `properties_judge::entry_holds` meets its contract, property by property. Assumes nothing.
 use borrow.Author.Needs.{needs}
 use native.Mathlib.Omega.{arith}
 use Rattle.properties_durability.specs.Durability.{durable}
-use Rattle.properties_tick.proofs.entry_holds.Statement.{statement}
-use Rattle.properties_tick.proofs.entry_holds.Tie as tie
+use Rattle.properties_judge.proofs.entry_holds.Statement.{statement}
+use Rattle.properties_judge.proofs.entry_holds.Tie as tie
 
 enum-told : tie.Need-enum-told
 enum-told c = search needs
