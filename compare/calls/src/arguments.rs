@@ -63,7 +63,7 @@ struct Arguments {
 }
 
 impl Comparison {
-    pub fn run(self) -> ExitCode {
+    pub fn run(&self) -> ExitCode {
         let Some(arguments) = self.arguments(env::args().skip(1)) else {
             let plants: Vec<&str> = self.plants.iter().map(|(name, _)| *name).collect();
             eprintln!(
@@ -83,14 +83,24 @@ impl Comparison {
         }
     }
 
-    fn compared(self, arguments: &Arguments) -> ExitCode {
-        let seed = arguments.seed.unwrap_or(1);
-        let mut compared = Compared {
-            run: Run::new(arguments.plant),
-            tally: Tally::of(self.outcomes),
+    /// Whether a difference is found in the cases of the first seed, so many at least, with a fault planted in our side or with none.
+    pub fn differs(&self, plant: Option<Plant>, count: u64) -> bool {
+        let mut compared = self.none_yet(plant);
+        (self.compare)(&mut compared, 1, count).is_err()
+    }
+
+    fn none_yet(&self, plant: Option<Plant>) -> Compared {
+        Compared {
+            run: Run::new(plant),
+            tally: Tally::of(self.outcomes.clone()),
             calls: 0,
             told: Vec::new(),
-        };
+        }
+    }
+
+    fn compared(&self, arguments: &Arguments) -> ExitCode {
+        let seed = arguments.seed.unwrap_or(1);
+        let mut compared = self.none_yet(arguments.plant);
         let agrees = (self.compare)(&mut compared, seed, arguments.count.unwrap_or(self.count));
         let calls = compared.calls;
         if let Err(difference) = agrees {

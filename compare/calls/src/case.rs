@@ -2,6 +2,7 @@
 //! of it. Rows stand from call to call.
 
 use std::borrow::Cow;
+use Row::{Core, Events, Head, Journal, Out, Plants, Records, Told1, Told3, Told4, Tracker};
 
 /// The rows that calls are lent. A call is lent the front of a row, or all of it where its length is fixed.
 #[derive(Clone, Copy, Debug, PartialEq, Eq, PartialOrd, Ord)]
@@ -108,8 +109,6 @@ const fn shape(
 }
 
 const OPTIONS: &[&str] = &["loss", "replay", "min", "mean", "flag"];
-
-use Row::{Core, Events, Head, Journal, Out, Plants, Records, Told1, Told3, Told4, Tracker};
 
 const SHAPES: [Shape; 21] = [
     shape("parse_script", &["text_len", "events_len"], &[Events]),

@@ -51,7 +51,7 @@ pub enum Told {
     Count(u64),
 }
 
-/// A case on a network, with what it is told; `accepted` has none for a refusal.
+/// A case on a network, with what it tells or the number of its refusal.
 pub fn case(call: Call, numbers: &[u64], answer: Result<Told, u64>) -> Case {
     let mut case = Case::new(call, numbers, answer.as_ref().err().copied().unwrap_or(0));
     for row in [Row::Told1, Row::Told4, Row::Out] {

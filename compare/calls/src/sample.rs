@@ -1,12 +1,14 @@
 //! Cases written down as a list of steps, which crates/samples and rust/bellmantle/tests/samples.rs replay.
 //!
 //! A list is a row of numbers, seven bits a byte, the lowest first, with the top bit set on all but a number's last byte. Who replays
-//! it keeps every row twice, all zeros at first: the one that is lent to the calls, and the expected one. The steps are
+//! it keeps every row twice, all zeros at first: the one that is lent to the calls, and the expected one. The steps:
 //!
-//!     0 words  side row at count w..     writes words: side 0 to the expected row alone, side 1 to both
-//!     1 fill   side row at count w       writes one word so many times
-//!     2 move   row from to count         moves words of the expected row
-//!     3 call   which answer numbers..    runs a call, and compares
+//! | step | numbers behind it | what it does |
+//! |---|---|---|
+//! | 0 words | side row at count w.. | writes words: side 0 to the expected row alone, side 1 to both |
+//! | 1 fill | side row at count w | writes one word so many times |
+//! | 2 move | row from to count | moves words of the expected row |
+//! | 3 call | which answer numbers.. | runs a call, and compares what it returns and writes |
 //!
 //! A part of a list leaves all rows zero, so that parts can be joined.
 

@@ -63,8 +63,12 @@ const OUTCOMES: [&str; 21] = [
 ];
 
 fn main() -> ExitCode {
+    comparison().run()
+}
+
+fn comparison() -> Comparison {
     let refusals: Vec<u64> = (20..=33).collect();
-    let comparison = Comparison {
+    Comparison {
         name: "journal",
         count: COUNT,
         sample_seed: SAMPLE_SEED,
@@ -72,8 +76,7 @@ fn main() -> ExitCode {
         plants: &planted::ALL,
         compare,
         sample,
-    };
-    comparison.run()
+    }
 }
 
 fn compare(compared: &mut Compared, seed: u64, count: u64) -> Agrees {
@@ -118,4 +121,17 @@ fn sample(sample: &mut Sample, seed: u64) {
     }
     let calls = WANTED.map(|(call, _)| call);
     sample.add_wrong(&calls, || inputs::night(SAMPLE_NIGHT, &mut draws).cases);
+}
+
+#[cfg(test)]
+mod tests {
+    use super::*;
+
+    #[test]
+    fn each_planted_fault_is_reported() {
+        assert!(!comparison().differs(None, 4_000));
+        for (name, plant) in planted::ALL {
+            assert!(comparison().differs(Some(plant), 4_000), "{name}");
+        }
+    }
 }

@@ -21,7 +21,7 @@ const TICK_ONCE_IN: u64 = 20;
 
 /// The sample's seed, and how many calls of runs and of ticks it has at least.
 const SAMPLE_SEED: u64 = 2_027;
-const SAMPLE_CALLS: u64 = 1_100;
+const SAMPLE_CALLS: u64 = 1_200;
 const SAMPLE_TICKS: u64 = 200;
 
 /// How much of a run has wrong expectations, at most.
@@ -56,11 +56,15 @@ const OUTCOMES: [&str; 14] = [
 ];
 
 fn main() -> ExitCode {
+    comparison().run()
+}
+
+fn comparison() -> Comparison {
     let refusals: Vec<u64> = (20..=30).collect();
     let mut names = outcomes(&OUTCOMES, &refusals);
     names.push("tick".to_string());
     names.extend((23..=30).map(|number| format!("tick: refusal {number}")));
-    let comparison = Comparison {
+    Comparison {
         name: "network",
         count: COUNT,
         sample_seed: SAMPLE_SEED,
@@ -68,8 +72,7 @@ fn main() -> ExitCode {
         plants: &planted::ALL,
         compare,
         sample,
-    };
-    comparison.run()
+    }
 }
 
 fn compare(compared: &mut Compared, seed: u64, count: u64) -> Agrees {
@@ -134,4 +137,17 @@ fn sample(sample: &mut Sample, seed: u64) {
         cases.extend(inputs::ticks(&mut draws).cases);
         cases
     });
+}
+
+#[cfg(test)]
+mod tests {
+    use super::*;
+
+    #[test]
+    fn each_planted_fault_is_reported() {
+        assert!(!comparison().differs(None, 4_000));
+        for (name, plant) in planted::ALL {
+            assert!(comparison().differs(Some(plant), 4_000), "{name}");
+        }
+    }
 }

@@ -44,11 +44,15 @@ const SAMPLE_SEED: u64 = 2_026;
 type Maker = fn(&mut Draws) -> Case;
 
 fn main() -> ExitCode {
+    comparison().run()
+}
+
+fn comparison() -> Comparison {
     let refusals: Vec<u64> = (40..=48).collect();
     let mut names = case::outcomes();
     names.extend(outcomes(&[], &refusals));
     names.extend(outcomes(&inputs::BOUNDARY, &[]));
-    let comparison = Comparison {
+    Comparison {
         name: "plants",
         count: COUNT,
         sample_seed: SAMPLE_SEED,
@@ -56,8 +60,7 @@ fn main() -> ExitCode {
         plants: &planted::ALL,
         compare,
         sample,
-    };
-    comparison.run()
+    }
 }
 
 fn compare(compared: &mut Compared, seed: u64, count: u64) -> Agrees {
@@ -115,4 +118,17 @@ fn sample(sample: &mut Sample, seed: u64) {
         let cases = makers.iter().map(|make| make(&mut draws).call());
         cases.collect()
     });
+}
+
+#[cfg(test)]
+mod tests {
+    use super::*;
+
+    #[test]
+    fn each_planted_fault_is_reported() {
+        assert!(!comparison().differs(None, 4_000));
+        for (name, plant) in planted::ALL {
+            assert!(comparison().differs(Some(plant), 4_000), "{name}");
+        }
+    }
 }

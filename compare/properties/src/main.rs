@@ -59,7 +59,11 @@ const OUTCOMES: [&str; 14] = [
 ];
 
 fn main() -> ExitCode {
-    let comparison = Comparison {
+    comparison().run()
+}
+
+fn comparison() -> Comparison {
+    Comparison {
         name: "properties",
         count: COUNT,
         sample_seed: SAMPLE_SEED,
@@ -67,8 +71,7 @@ fn main() -> ExitCode {
         plants: &planted::ALL,
         compare,
         sample,
-    };
-    comparison.run()
+    }
 }
 
 fn compare(compared: &mut Compared, seed: u64, count: u64) -> Agrees {
@@ -113,4 +116,17 @@ fn sample(sample: &mut Sample, seed: u64) {
     assert!(sample.is_complete(&WANTED), "a refusal is not met");
     let calls = WANTED.map(|(call, _)| call);
     sample.add_wrong(&calls, || listed(draws, SAMPLE_WRONG, true).cases);
+}
+
+#[cfg(test)]
+mod tests {
+    use super::*;
+
+    #[test]
+    fn each_planted_fault_is_reported() {
+        assert!(!comparison().differs(None, 4_000));
+        for (name, plant) in planted::ALL {
+            assert!(comparison().differs(Some(plant), 4_000), "{name}");
+        }
+    }
 }
