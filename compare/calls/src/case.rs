@@ -1,6 +1,7 @@
 //! A call of include/bellmantle.h as data: which one, its numbers, the words put into the rows that it is lent, and what is expected
 //! of it. Rows stand from call to call.
 
+use bellmantle::raw;
 use std::borrow::Cow;
 use Row::{Core, Events, Head, Journal, Out, Plants, Records, Told1, Told3, Told4, Tracker};
 
@@ -36,8 +37,8 @@ pub enum Row {
 pub const ROWS: [(Row, usize); 21] = [
     (Row::Text, 65_600),
     (Row::Events, 6_200),
-    (Row::Head, 12),
-    (Row::Records, 1_024),
+    (Row::Head, raw::HEAD_WORDS),
+    (Row::Records, raw::RECORDS_WORDS),
     (Row::Draws, 64),
     (Row::Extras, 64),
     (Row::Sends, 600),
@@ -46,10 +47,10 @@ pub const ROWS: [(Row, usize); 21] = [
     (Row::Told1, 1),
     (Row::Told3, 3),
     (Row::Told4, 4),
-    (Row::Plants, 49),
+    (Row::Plants, raw::PLANTS_WORDS),
     (Row::Recovering, 20),
     (Row::Picks, 64),
-    (Row::Core, 17),
+    (Row::Core, raw::CORE_WORDS),
     (Row::Snapshot, 64),
     (Row::Logs, 7_700),
     (Row::Values, 20),

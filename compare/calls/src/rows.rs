@@ -1,15 +1,15 @@
 //! The rows, and a call run on them through `bellmantle::raw`.
 
 use crate::case::{Call, Case, Row, Words};
-use bellmantle::raw;
+use bellmantle::raw::{self, CORE_WORDS, HEAD_WORDS, PLANTS_WORDS, RECORDS_WORDS};
 
 /// A row of each sort.
 #[derive(Clone)]
 pub struct Rows {
     text: Vec<u64>,
     events: Vec<u64>,
-    head: Box<[u64; 12]>,
-    records: Box<[u64; 1024]>,
+    head: Box<[u64; HEAD_WORDS]>,
+    records: Box<[u64; RECORDS_WORDS]>,
     draws: Vec<u64>,
     extras: Vec<u64>,
     sends: Vec<u64>,
@@ -18,10 +18,10 @@ pub struct Rows {
     told1: [u64; 1],
     told3: [u64; 3],
     told4: [u64; 4],
-    plants: [u64; 49],
+    plants: [u64; PLANTS_WORDS],
     recovering: Vec<u64>,
     picks: Vec<u64>,
-    core: [u64; 17],
+    core: [u64; CORE_WORDS],
     snapshot: Vec<u64>,
     logs: Vec<u64>,
     values: Vec<u64>,
@@ -36,8 +36,8 @@ impl Rows {
         Rows {
             text: row(Row::Text),
             events: row(Row::Events),
-            head: Box::new([0; 12]),
-            records: Box::new([0; 1024]),
+            head: Box::new([0; HEAD_WORDS]),
+            records: Box::new([0; RECORDS_WORDS]),
             draws: row(Row::Draws),
             extras: row(Row::Extras),
             sends: row(Row::Sends),
@@ -46,10 +46,10 @@ impl Rows {
             told1: [0; 1],
             told3: [0; 3],
             told4: [0; 4],
-            plants: [0; 49],
+            plants: [0; PLANTS_WORDS],
             recovering: row(Row::Recovering),
             picks: row(Row::Picks),
-            core: [0; 17],
+            core: [0; CORE_WORDS],
             snapshot: row(Row::Snapshot),
             logs: row(Row::Logs),
             values: row(Row::Values),

@@ -1,6 +1,7 @@
 //! Faults that can be planted in our side, to see that the comparison reports them.
 
 use calls::case::{Call, Case, Row};
+use calls::raw::head;
 use calls::rows::Rows;
 use calls::run::Plant;
 
@@ -31,7 +32,7 @@ fn length(case: &Case, answer: &mut u64, rows: &mut Rows) {
 /// A rewind that goes over a call leaves the copies delayed.
 fn rewound(case: &Case, answer: &mut u64, rows: &mut Rows) {
     if case.call == Call::JournalRewind && *answer == 0 && case.numbers[0] > 0 {
-        rows.row_mut(Row::Head)[11] += 1;
+        rows.row_mut(Row::Head)[head::DELAYED] += 1;
     }
 }
 

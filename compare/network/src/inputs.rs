@@ -3,8 +3,8 @@
 use crate::run::{Run, Sending, SENT_LIMIT};
 use calls::draws::Draws;
 use calls::nets::{
-    any_number, draw, first_tick, ill_formed, next_tick, options, options_bad_once_in, room, ROOM,
-    SENT,
+    any_number, bad_probability, draw, first_tick, ill_formed, next_tick, options,
+    options_bad_once_in, room, Options, FLAG, LOSS, ROOM, SENT,
 };
 use oracle::network::Letter;
 
@@ -127,20 +127,59 @@ fn at_the_limit(run: &mut Run, clock: u64, draws: &mut Draws) {
     run.set_sent(old + more);
 }
 
-/// A run of ticks, each in one call: of no message to a dozen, some of them refused.
+/// A run of ticks, each in one call: of no message to a dozen, some of them refused. Beside them are words and numbers that only the
+/// boundary has: a flag of options that is any number, and a head with a flag over 1 or with bits of no probability.
 pub fn ticks(draws: &mut Draws) -> Run {
-    let mut run = Run::new(options(draws));
+    let mut run = Run::new(with_any_flag(options(draws), draws));
     let mut clock = first_tick(draws);
     for _ in 0..draws.between(20, 60) {
         clock = next_tick(clock, draws);
         match draws.below(40) {
-            0 => set_options(&mut run, draws),
-            1 => spoilt_tick(&mut run, clock, draws),
+            0 => run.set_options(with_any_flag(options_bad_once_in(3, draws), draws)),
+            1 => {
+                if let Some((place, value)) = ill_formed(&run.network, draws) {
+                    let old = run.spoil(place, value);
+                    tick(&mut run, clock, draws);
+                    run.mend(place, old);
+                }
+            }
             2 => near_the_limit(&mut run, clock, draws),
+            3 => no_head(&mut run, clock, draws),
             _ => tick(&mut run, clock, draws),
         }
     }
     run
+}
+
+fn with_any_flag(options: Options, draws: &mut Draws) -> Options {
+    let [loss, replay, min, mean, flag] = options;
+    let flag = if flag == 1 {
+        any_number(draws).max(1)
+    } else {
+        0
+    };
+    [loss, replay, min, mean, flag]
+}
+
+/// Calls on a head that no network has.
+fn no_head(run: &mut Run, clock: u64, draws: &mut Draws) {
+    let (place, value) = match draws.below(3) {
+        0 => (FLAG, any_number(draws).max(2)),
+        1 => (LOSS, bad_probability(draws)),
+        _ => (LOSS + 1, bad_probability(draws)),
+    };
+    let old = run.spoil(place, value);
+    for _ in 0..draws.between(1, 3) {
+        match draws.below(6) {
+            0 => set_options(run, draws),
+            1 => run.take(clock, ROOM),
+            2 => run.pending(),
+            3 => run.in_flight(ROOM),
+            4 => tick(run, clock, draws),
+            _ => send(run, clock, draws),
+        }
+    }
+    run.mend(place, old);
 }
 
 fn tick(run: &mut Run, clock: u64, draws: &mut Draws) {
@@ -187,15 +226,6 @@ fn plain(letter: &mut Letter, clock: u64) {
     letter.now = clock;
     letter.sort %= 2;
     letter.kind %= 11;
-}
-
-fn spoilt_tick(run: &mut Run, clock: u64, draws: &mut Draws) {
-    let Some((place, value)) = ill_formed(&run.network, draws) else {
-        return;
-    };
-    let old = run.spoil(place, value);
-    tick(run, clock, draws);
-    run.mend(place, old);
 }
 
 /// A tick in which the limit of messages sent is reached.

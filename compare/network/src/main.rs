@@ -9,8 +9,9 @@ mod planted;
 mod run;
 
 use calls::arguments::{Agrees, Compared, Comparison};
-use calls::case::{Call, Case};
+use calls::case::{Call, Case, Row};
 use calls::draws::Draws;
+use calls::raw::head;
 use calls::sample::Sample;
 use calls::tally::outcomes;
 use std::process::ExitCode;
@@ -64,6 +65,7 @@ fn comparison() -> Comparison {
     let mut names = outcomes(&OUTCOMES, &refusals);
     names.push("tick".to_string());
     names.extend((23..=30).map(|number| format!("tick: refusal {number}")));
+    names.extend(outcomes(&BOUNDARY, &[]));
     Comparison {
         name: "network",
         count: COUNT,
@@ -98,12 +100,37 @@ fn compare(compared: &mut Compared, seed: u64, count: u64) -> Agrees {
             if case.call != Call::NetworkTick {
                 case.met.clear();
             }
+            case.met.extend(boundary(&case).map(Into::into));
             compared.case(&case)?;
             ticks += 1;
         }
     }
     compared.tell(format!("and {ticks} calls in runs of ticks"));
     Ok(())
+}
+
+/// What only the boundary has, and the Rust has not.
+const BOUNDARY: [&str; 3] = [
+    "a flag that is any number",
+    "a head with a flag over 1",
+    "a head with bits of no probability",
+];
+
+/// Which of these a case is about: options that are taken, or a word that was put into the head before it.
+fn boundary(case: &Case) -> Option<&'static str> {
+    let sets_options = [Call::NetworkNew, Call::NetworkSetOptions].contains(&case.call);
+    if sets_options && case.answer == 0 && case.numbers[4] > 1 {
+        return Some(BOUNDARY[0]);
+    }
+    if case.call.refusal(case.answer) != 23 {
+        return None;
+    }
+    let put = case.before.iter().find(|words| words.row == Row::Head)?;
+    match put.at {
+        head::FLAG => Some(BOUNDARY[1]),
+        head::LOSS | head::REPLAY => Some(BOUNDARY[2]),
+        _ => None,
+    }
 }
 
 /// Whether the Rust answered a call: not refused, but for options, and no take at the last tick.

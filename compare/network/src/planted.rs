@@ -1,6 +1,7 @@
 //! Faults that can be planted in our side, to see that the comparison reports them.
 
 use calls::case::{Call, Case, Row};
+use calls::raw::{head, RECORD_WORDS};
 use calls::rows::Rows;
 use calls::run::Plant;
 
@@ -23,7 +24,7 @@ fn number(_: &Case, answer: &mut u64, _: &mut Rows) {
 /// The first two records of a take change places.
 fn order(case: &Case, answer: &mut u64, rows: &mut Rows) {
     if case.call == Call::NetworkTakeDue && *answer == 0 && rows.row(Row::Told1)[0] > 1 {
-        rows.row_mut(Row::Out)[..16].rotate_left(8);
+        rows.row_mut(Row::Out)[..2 * RECORD_WORDS].rotate_left(RECORD_WORDS);
     }
 }
 
@@ -31,15 +32,15 @@ fn order(case: &Case, answer: &mut u64, rows: &mut Rows) {
 fn delayed(case: &Case, answer: &mut u64, rows: &mut Rows) {
     let told = rows.row(Row::Told4);
     if case.call == Call::NetworkSend && *answer == 0 && told[3] == 2 {
-        rows.row_mut(Row::Head)[11] -= 1;
+        rows.row_mut(Row::Head)[head::DELAYED] -= 1;
     }
 }
 
 /// A take leaves the last record where it stood.
 fn behind(case: &Case, answer: &mut u64, rows: &mut Rows) {
     if case.call == Call::NetworkTakeDue && *answer == 0 && rows.row(Row::Told1)[0] > 0 {
-        let pending = rows.row(Row::Head)[5] as usize;
-        rows.row_mut(Row::Records)[8 * pending] = 1;
+        let pending = rows.row(Row::Head)[head::PENDING] as usize;
+        rows.row_mut(Row::Records)[RECORD_WORDS * pending] = 1;
     }
 }
 

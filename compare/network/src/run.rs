@@ -427,7 +427,8 @@ fn options_of(options: Options) -> NetworkOptions {
         packet_replay_probability: f64::from_bits(options[1]),
         one_way_delay_min: options[2],
         one_way_delay_mean: options[3],
-        fault_client_messages: options[4] == 1,
+        // The Rust has a yes or no; ours takes any number but 0 for a yes.
+        fault_client_messages: options[4] != 0,
     }
 }
 

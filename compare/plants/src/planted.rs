@@ -1,6 +1,7 @@
 //! Faults that can be planted in our side, to see that the comparison reports them.
 
 use calls::case::{Call, Case, Row};
+use calls::raw::{core, plants};
 use calls::rows::Rows;
 use calls::run::Plant;
 
@@ -23,21 +24,24 @@ fn nonce(case: &Case, answer: &mut u64, rows: &mut Rows) {
 fn count(case: &Case, answer: &mut u64, rows: &mut Rows) {
     let is_down = case.met.iter().any(|met| met == "crash of a down plant");
     if *answer == 0 && is_down {
-        rows.row_mut(Row::Plants)[46] += 1;
+        rows.row_mut(Row::Plants)[plants::CRASHES] += 1;
     }
 }
 
 /// The first two ids of a core change places.
 fn order(case: &Case, answer: &mut u64, rows: &mut Rows) {
     if case.call == Call::PlantsChooseCore && *answer == 0 {
-        rows.row_mut(Row::Core).swap(2, 3);
+        rows.row_mut(Row::Core).swap(core::IDS, core::IDS + 1);
     }
 }
 
 /// A receiver that is down and cut off is told as cut off.
 fn verdict(case: &Case, answer: &mut u64, rows: &mut Rows) {
-    let to = case.numbers.get(2).map_or(0, |&to| to as usize);
-    if case.call == Call::PlantsVerdict && *answer == 0 && rows.row(Row::Plants)[16 + to] == 1 {
+    if case.call != Call::PlantsVerdict || *answer != 0 {
+        return;
+    }
+    let to = case.numbers[2] as usize;
+    if rows.row(Row::Plants)[plants::PARTITIONED + to] == 1 {
         rows.row_mut(Row::Told1)[0] = 2;
     }
 }

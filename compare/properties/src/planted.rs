@@ -1,6 +1,7 @@
 //! Faults that can be planted in our side, to see that the comparison reports them.
 
 use calls::case::{Call, Case, Row};
+use calls::raw::{told, LOG_ENTRIES, LOG_WORDS};
 use calls::rows::Rows;
 use calls::run::Plant;
 
@@ -13,13 +14,13 @@ pub const ALL: [(&str, Plant); 5] = [
 ];
 
 fn is_broken(case: &Case, answer: u64, rows: &Rows) -> bool {
-    case.call == Call::PropertiesTick && answer == 0 && rows.row(Row::Told4)[0] != 0
+    case.call == Call::PropertiesTick && answer == 0 && rows.row(Row::Told4)[told::PROPERTY] != 0
 }
 
 /// An index counts from 1.
 fn index(case: &Case, answer: &mut u64, rows: &mut Rows) {
     if is_broken(case, *answer, rows) {
-        rows.row_mut(Row::Told4)[2] += 1;
+        rows.row_mut(Row::Told4)[told::INDEX] += 1;
     }
 }
 
@@ -43,7 +44,7 @@ fn body(case: &Case, answer: &mut u64, rows: &mut Rows) {
 fn reboot(case: &Case, answer: &mut u64, rows: &mut Rows) {
     if case.call == Call::PropertiesReboot && *answer == 0 {
         let (n, id) = (case.numbers[0] as usize, case.numbers[1] as usize);
-        rows.row_mut(Row::Tracker)[514 + n + 128 * id] = 0;
+        rows.row_mut(Row::Tracker)[2 + n + LOG_WORDS + LOG_ENTRIES * id] = 0;
     }
 }
 
