@@ -6,7 +6,7 @@ ghost use mathlib.Core.Bool.{not};
 ghost use mathlib.Core.List.{[], _∷_};
 ghost use lib.Dec.{eqb};
 ghost use lib.ListN.{length, replicate};
-ghost use Rattle.script.specs.Scripts.{answerOf, wordsAfter};
+ghost use Rattle.script.specs.Scripts.{scriptAnswer, scriptWords};
 ghost use Rattle.nights.specs.Record.{wordsOf};
 ghost use Rattle.basis.specs.Basis.{bit};
 ghost use Rattle.nights.specs.Net.{keep, isDue, send, take, choose};
@@ -32,8 +32,8 @@ ghost use Rattle.script_packed.specs.Packing.{answerWord};
 // events there are or, for a refusal, its number times 2^32 and its line.
 #[no_mangle]
 pub extern "C" fn bellmantle_parse_script(text: &[u8], events: &mut [u64]) -> u64
-    ensures answer { λ r. ⌜ r ≡ answerWord (answerOf (now (text .entry)) (length (now (events .entry)))) ⌝ }
-    ensures words { λ r. ⌜ now (events .exit) ≡ wordsAfter (now (text .entry)) (now (events .entry)) ⌝ }
+    ensures answer { λ r. ⌜ r ≡ answerWord (scriptAnswer (now (text .entry)) (length (now (events .entry)))) ⌝ }
+    ensures words { λ r. ⌜ now (events .exit) ≡ scriptWords (now (text .entry)) (now (events .entry)) ⌝ }
 {
     script_packed::parse_script(text, events)
 }

@@ -12,7 +12,7 @@ use Rattle.script.specs.declared.fault.Fault.{Fault}
 use Rattle.script.proofs.fault.Fault as fault
 use Rattle.script.specs.declared.fault.Fault.the-variants.{Crash, Restart, Reboot, Partition, Heal, HealAll}
 use Rattle.plants.specs.State.{tested, countsFit}
-use Rattle.plants.specs.Faults.{after, knows, hasNonce, answered, faultTested, applied}
+use Rattle.plants.specs.Faults.{afterFault, knows, hasNonce, answered, faultTested, applied}
 use Rattle.plants.specs.declared.Plants.{Plants}
 use Rattle.plants.specs.declared.Next.{Next}
 use Rattle.plants.specs.declared.Outcome.{Outcome}
@@ -36,16 +36,16 @@ module _ (s : Plants) (tick : ℕ) (fault : Fault) (draws : List ℕ) where
   unknown-plant e f = rw (e, f)
 
   module _ (e : tested s ≡ Passed) (k : knows s fault ≡ true) where
-    pub count-full : countsFit (after s tick fault) ≡ false → refusedWith s CountFull ≡ applied s tick fault draws
+    pub count-full : countsFit (afterFault s tick fault) ≡ false → refusedWith s CountFull ≡ applied s tick fault draws
     unfolding applied faultTested
     count-full f = rw (e, k, f)
 
-    pub no-nonce : countsFit (after s tick fault) ≡ true → hasNonce fault draws ≡ false → refusedWith s NoNonce ≡ applied s tick fault draws
+    pub no-nonce : countsFit (afterFault s tick fault) ≡ true → hasNonce fault draws ≡ false → refusedWith s NoNonce ≡ applied s tick fault draws
     unfolding applied faultTested
     no-nonce f g = rw (e, k, f, g)
 
-    pub goes : countsFit (after s tick fault) ≡ true → hasNonce fault draws ≡ true
-        → _≡_ {A = Next} (record { plants = after s tick fault; outcome = answered fault draws }) (applied s tick fault draws)
+    pub goes : countsFit (afterFault s tick fault) ≡ true → hasNonce fault draws ≡ true
+        → _≡_ {A = Next} (record { plants = afterFault s tick fault; outcome = answered fault draws }) (applied s tick fault draws)
     unfolding applied faultTested
     goes f g = rw (e, k, f, g)
 

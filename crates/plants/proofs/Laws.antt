@@ -1,5 +1,5 @@
 -- What a reader expects of the plants' calls: a refusal hands the plants back, an accepted call leaves a state that passes its tests, so does a
--- fresh state, and a client's id plays no part in a verdict. Assumes nothing.
+-- freshPlants state, and a client's id plays no part in a verdict. Assumes nothing.
 use mathlib.Core.Bool.{Bool, true, false, _&&_}
 use mathlib.Core.List.{List, _++_}
 use mathlib.Core.Path.{_≡_, refl, sym, _∙_}
@@ -13,9 +13,9 @@ use Rattle.script.specs.declared.fault.Fault.the-variants.{Crash, Restart, Rebo
 use Rattle.plants.specs.Refusals.{must, _then_}
 use Rattle.basis.specs.Basis.{fewest, most}
 use Rattle.basis.proofs.Laws.{both, not-few}
-use Rattle.plants.specs.State.{fresh, noneSet, countsFit, wellFormed, tested}
-use Rattle.plants.specs.Faults.{after, knows, hasNonce, faultTested, appliedIf, applied}
-use Rattle.plants.specs.Verdicts.{verdictTested, judgedIf, judged}
+use Rattle.plants.specs.State.{freshPlants, noneSet, countsFit, plantsFormed, tested}
+use Rattle.plants.specs.Faults.{afterFault, knows, hasNonce, faultTested, appliedIf, applied}
+use Rattle.plants.specs.Verdicts.{verdictTested, judgedIf, verdictGiven}
 use Rattle.plants.specs.declared.Plants.{Plants}
 use Rattle.plants.specs.declared.Origin.the-variants.{Client}
 use Rattle.plants.specs.declared.Outcome.the-variants.{Refused}
@@ -33,7 +33,7 @@ module _ (s : Plants) (tick : ℕ) (fault : Fault) (draws : List ℕ) where
     known = must (knows s fault) UnknownPlant
 
     fits : Test
-    fits = must (countsFit (after s tick fault)) CountFull
+    fits = must (countsFit (afterFault s tick fault)) CountFull
 
     drawn : Test
     drawn = must (hasNonce fault draws) NoNonce
@@ -46,9 +46,9 @@ module _ (s : Plants) (tick : ℕ) (fault : Fault) (draws : List ℕ) where
     unfolding known
     knows-passed = holds (knows s fault) UnknownPlant (both-pass known (fits then drawn) (parts .1) .0)
 
-    counts-passed : countsFit (after s tick fault) ≡ true
+    counts-passed : countsFit (afterFault s tick fault) ≡ true
     unfolding fits
-    counts-passed = holds (countsFit (after s tick fault)) CountFull (both-pass fits drawn (both-pass known (fits then drawn) (parts .1) .1) .0)
+    counts-passed = holds (countsFit (afterFault s tick fault)) CountFull (both-pass fits drawn (both-pass known (fits then drawn) (parts .1) .1) .0)
 
     nonce-passed : hasNonce fault draws ≡ true
     unfolding drawn
@@ -82,7 +82,7 @@ none-past (suc n) (suc k) = none-past n k
 
 module _ (s : Plants) (tick : ℕ) (e : tested s ≡ Passed) where
   flags-hold : (noneSet (drop (s .n) (s .up)) ≡ true) × (noneSet (drop (s .n) (s .partitioned)) ≡ true)
-  unfolding wellFormed
+  unfolding plantsFormed
   flags-hold =
       both (noneSet (drop (s .n) (s .up))) (noneSet (drop (s .n) (s .partitioned)))
       (both (noneSet (drop (s .n) (s .up)) && noneSet (drop (s .n) (s .partitioned))) (countsFit s) (form-holds s e) .0)
@@ -97,33 +97,33 @@ module _ (s : Plants) (tick : ℕ) (e : tested s ≡ Passed) where
       sym
       (good next (rw m (count-holds s e)) (by-counts next (rw m u) true (rw m p) f))
 
-  keeps : (fault : Fault) → knows s fault ≡ true → countsFit (after s tick fault) ≡ true → tested (after s tick fault) ≡ Passed
-  unfolding after knows
-  keeps (Crash i) k f = formed (after s tick (Crash i)) refl (set-below (s .up) i false k (flags-hold .0)) (flags-hold .1) f
-  keeps (Restart i) k f = formed (after s tick (Restart i)) refl (set-below (s .up) i true k (flags-hold .0)) (flags-hold .1) f
-  keeps (Reboot i) k f = formed (after s tick (Reboot i)) refl (set-below (s .up) i true k (flags-hold .0)) (flags-hold .1) f
-  keeps (Partition i) k f = formed (after s tick (Partition i)) refl (flags-hold .0) (set-below (s .partitioned) i true k (flags-hold .1)) f
-  keeps (Heal i) k f = formed (after s tick (Heal i)) refl (flags-hold .0) (set-below (s .partitioned) i false k (flags-hold .1)) f
-  keeps HealAll k f = formed (after s tick HealAll) refl (flags-hold .0) (none-past (s .n) most) f
+  keeps : (fault : Fault) → knows s fault ≡ true → countsFit (afterFault s tick fault) ≡ true → tested (afterFault s tick fault) ≡ Passed
+  unfolding afterFault knows
+  keeps (Crash i) k f = formed (afterFault s tick (Crash i)) refl (set-below (s .up) i false k (flags-hold .0)) (flags-hold .1) f
+  keeps (Restart i) k f = formed (afterFault s tick (Restart i)) refl (set-below (s .up) i true k (flags-hold .0)) (flags-hold .1) f
+  keeps (Reboot i) k f = formed (afterFault s tick (Reboot i)) refl (set-below (s .up) i true k (flags-hold .0)) (flags-hold .1) f
+  keeps (Partition i) k f = formed (afterFault s tick (Partition i)) refl (flags-hold .0) (set-below (s .partitioned) i true k (flags-hold .1)) f
+  keeps (Heal i) k f = formed (afterFault s tick (Heal i)) refl (flags-hold .0) (set-below (s .partitioned) i false k (flags-hold .1)) f
+  keeps HealAll k f = formed (afterFault s tick HealAll) refl (flags-hold .0) (none-past (s .n) most) f
 
 -- an accepted fault leaves a state that passes its tests
-pub keeps-form : (s : Plants) (tick : ℕ) (fault : Fault) (draws : List ℕ) → faultTested s tick fault draws ≡ Passed → tested (after s tick fault) ≡ Passed
+pub keeps-form : (s : Plants) (tick : ℕ) (fault : Fault) (draws : List ℕ) → faultTested s tick fault draws ≡ Passed → tested (afterFault s tick fault) ≡ Passed
 keeps-form s tick fault draws e =
     keeps s tick (parts s tick fault draws e .0) fault (knows-passed s tick fault draws e) (counts-passed s tick fault draws e)
 
--- a fresh state passes its tests
-pub fresh-passes : (n : ℕ) → fewest ≤ n → n ≤ most → tested (fresh n) ≡ Passed
+-- a freshPlants state passes its tests
+pub fresh-passes : (n : ℕ) → fewest ≤ n → n ≤ most → tested (freshPlants n) ≡ Passed
 unfolding countsFit
 fresh-passes n h k =
     let u : noneSet (drop n (replicate n true ++ replicate (most - n) false)) ≡ true =
     rw (drop-at (replicate n true) (replicate (most - n) false) n (length-replicate n true)) (none-left (most - n)) in
-    sym (good (fresh n) (not-few n h ∙ le-leb n most k) (by-counts (fresh n) u true (none-past n most) refl))
+    sym (good (freshPlants n) (not-few n h ∙ le-leb n most k) (by-counts (freshPlants n) u true (none-past n most) refl))
 
 -- a client's id plays no part in a verdict
 any-client : (t : Test) (s : Plants) (i j to : ℕ) → judgedIf t s (Client i) to ≡ judgedIf t s (Client j) to
 any-client Passed s i j to = refl
 any-client (Failed r) s i j to = refl
 
-pub client-untested : (s : Plants) (i j to : ℕ) → judged s (Client i) to ≡ judged s (Client j) to
-unfolding judged verdictTested
+pub client-untested : (s : Plants) (i j to : ℕ) → verdictGiven s (Client i) to ≡ verdictGiven s (Client j) to
+unfolding verdictGiven verdictTested
 client-untested s i j to = any-client (verdictTested s (Client i) to) s i j to

@@ -9,7 +9,7 @@ use lib.ListN.{drop}
 use Rattle.plants.specs.Refusals.{must, _then_}
 use Rattle.basis.specs.Basis.{fewest, most, plantCount}
 use Rattle.basis.proofs.Laws.{both, between}
-use Rattle.plants.specs.State.{limit, noneSet, countsFit, wellFormed, tested}
+use Rattle.plants.specs.State.{limit, noneSet, countsFit, plantsFormed, tested}
 use Rattle.plants.specs.declared.Plants.{Plants}
 use Rattle.plants.specs.declared.refusal.Refusal.{Refusal}
 use Rattle.plants.specs.declared.refusal.Refusal.the-variants.{PlantCount, IllFormed}
@@ -31,45 +31,45 @@ module _ (s : Plants) where
   unfolding tested
   bad-count e = rw e
 
-  pub bad-form : plantCount (s .n) ≡ true → wellFormed s ≡ false → Failed IllFormed ≡ tested s
+  pub bad-form : plantCount (s .n) ≡ true → plantsFormed s ≡ false → Failed IllFormed ≡ tested s
   unfolding tested
   bad-form e f = rw (e, f)
 
-  pub good : plantCount (s .n) ≡ true → wellFormed s ≡ true → Passed ≡ tested s
+  pub good : plantCount (s .n) ≡ true → plantsFormed s ≡ true → Passed ≡ tested s
   unfolding tested
   good e f = rw (e, f)
 
   -- its form, by its three parts
   module _ (up : noneSet (drop (s .n) (s .up)) ≡ true) where
-    pub parted-past : noneSet (drop (s .n) (s .partitioned)) ≡ false → wellFormed s ≡ false
-    unfolding wellFormed
+    pub parted-past : noneSet (drop (s .n) (s .partitioned)) ≡ false → plantsFormed s ≡ false
+    unfolding plantsFormed
     parted-past e = rw (up, e)
 
-    pub by-counts : (fit : Bool) → noneSet (drop (s .n) (s .partitioned)) ≡ true → countsFit s ≡ fit → wellFormed s ≡ fit
-    unfolding wellFormed
+    pub by-counts : (fit : Bool) → noneSet (drop (s .n) (s .partitioned)) ≡ true → countsFit s ≡ fit → plantsFormed s ≡ fit
+    unfolding plantsFormed
     by-counts fit e f = rw (up, e, f)
 
-  pub up-past : noneSet (drop (s .n) (s .up)) ≡ false → wellFormed s ≡ false
-  unfolding wellFormed
+  pub up-past : noneSet (drop (s .n) (s .up)) ≡ false → plantsFormed s ≡ false
+  unfolding plantsFormed
   up-past e = rw e
 
 -- ---- a state that passed its tests
 module _ (s : Plants) (e : tested s ≡ Passed) where
-  parts : (must (plantCount (s .n)) PlantCount ≡ Passed) × (must (wellFormed s) IllFormed ≡ Passed)
+  parts : (must (plantCount (s .n)) PlantCount ≡ Passed) × (must (plantsFormed s) IllFormed ≡ Passed)
   unfolding tested
-  parts = both-pass (must (plantCount (s .n)) PlantCount) (must (wellFormed s) IllFormed) e
+  parts = both-pass (must (plantCount (s .n)) PlantCount) (must (plantsFormed s) IllFormed) e
 
   pub count-holds : plantCount (s .n) ≡ true
   count-holds = holds (plantCount (s .n)) PlantCount (parts .0)
 
-  pub form-holds : wellFormed s ≡ true
-  form-holds = holds (wellFormed s) IllFormed (parts .1)
+  pub form-holds : plantsFormed s ≡ true
+  form-holds = holds (plantsFormed s) IllFormed (parts .1)
 
   pub bounds : (fewest ≤ s .n) × (s .n ≤ most)
   bounds = between (s .n) count-holds
 
   pub counts : (s .crashes ≤ limit) × (s .restarts ≤ limit) × (s .reboots ≤ limit)
-  unfolding wellFormed countsFit
+  unfolding plantsFormed countsFit
   counts =
       let h = both (noneSet (drop (s .n) (s .up)) && noneSet (drop (s .n) (s .partitioned))) (leb (s .crashes) limit && leb (s .restarts) limit && leb (s .reboots) limit) form-holds .1 in
       let k = both (leb (s .crashes) limit && leb (s .restarts) limit) _ h in

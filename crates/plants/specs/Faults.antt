@@ -48,14 +48,14 @@ parted s flags =
       reboots = s .reboots;
     }
 
--- the plants after a fault at a tick
-unfoldable pub after : Plants → ℕ → Fault → Plants
-after s tick (Crash i) = turned s i false tick (s .crashes + bit (isUp s i)) (s .restarts) (s .reboots)
-after s tick (Restart i) = turned s i true tick (s .crashes) (s .restarts + bit (not (isUp s i))) (s .reboots)
-after s tick (Reboot i) = turned s i true tick (s .crashes) (s .restarts + 1) (s .reboots + 1)
-after s tick (Partition i) = parted s (set (s .partitioned) i true)
-after s tick (Heal i) = parted s (set (s .partitioned) i false)
-after s tick HealAll = parted s (replicate most false)
+-- the plants afterFault a fault at a tick
+unfoldable pub afterFault : Plants → ℕ → Fault → Plants
+afterFault s tick (Crash i) = turned s i false tick (s .crashes + bit (isUp s i)) (s .restarts) (s .reboots)
+afterFault s tick (Restart i) = turned s i true tick (s .crashes) (s .restarts + bit (not (isUp s i))) (s .reboots)
+afterFault s tick (Reboot i) = turned s i true tick (s .crashes) (s .restarts + 1) (s .reboots + 1)
+afterFault s tick (Partition i) = parted s (set (s .partitioned) i true)
+afterFault s tick (Heal i) = parted s (set (s .partitioned) i false)
+afterFault s tick HealAll = parted s (replicate most false)
 
 -- the fault's id is below n: heal-all has none
 unfoldable pub knows : Plants → Fault → Bool
@@ -91,12 +91,12 @@ unfoldable pub faultTested : Plants → ℕ → Fault → List ℕ → Test
 faultTested s tick fault draws =
     tested s
     then must (knows s fault) UnknownPlant
-    then must (countsFit (after s tick fault)) CountFull
+    then must (countsFit (afterFault s tick fault)) CountFull
     then must (hasNonce fault draws) NoNonce
 
 -- the plants that follow and the answer: a refusal hands the plants back as they came
 abbrev pub appliedIf : Test → Plants → ℕ → Fault → List ℕ → Next
-appliedIf Passed s tick fault draws = record { plants = after s tick fault; outcome = answered fault draws }
+appliedIf Passed s tick fault draws = record { plants = afterFault s tick fault; outcome = answered fault draws }
 appliedIf (Failed r) s tick fault draws = record { plants = s; outcome = Refused r }
 
 unfoldable pub applied : Plants → ℕ → Fault → List ℕ → Next

@@ -7,16 +7,16 @@ use Rattle.plants.specs.declared.refusal.Refusal.the-variants.{PlantCoun
 use Rattle.plants.specs.declared.refusal.Test.{Test}
 use Rattle.plants.specs.declared.refusal.Test.the-variants.{Passed, Failed}
 
-abbrev pub refusalNumber : Refusal → ℕ
-refusalNumber PlantCount = 40
-refusalNumber UnknownPlant = 41
-refusalNumber IllFormed = 42
-refusalNumber CountFull = 43
-refusalNumber NoNonce = 44
-refusalNumber BadFlags = 45
-refusalNumber TooFewPicks = 46
-refusalNumber PickOutOfRange = 47
-refusalNumber TooFewHealthy = 48
+abbrev pub plantsRefusal : Refusal → ℕ
+plantsRefusal PlantCount = 40
+plantsRefusal UnknownPlant = 41
+plantsRefusal IllFormed = 42
+plantsRefusal CountFull = 43
+plantsRefusal NoNonce = 44
+plantsRefusal BadFlags = 45
+plantsRefusal TooFewPicks = 46
+plantsRefusal PickOutOfRange = 47
+plantsRefusal TooFewHealthy = 48
 
 -- a test that fails with a refusal
 abbrev pub must : Bool → Refusal → Test

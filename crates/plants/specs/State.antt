@@ -1,4 +1,4 @@
--- The state of 3 to 15 plants (RULES, "Plants and core"), when it is well formed, and a fresh one. A state has room for 15 plants: flags and
+-- The state of 3 to 15 plants (RULES, "Plants and core"), when it is well formed, and a freshPlants one. A state has room for 15 plants: flags and
 -- numbers are lists of 15, of which the first n are the plants'. Assumes nothing.
 use mathlib.Core.Bool.{Bool, true, false, cond, not, _&&_}
 use mathlib.Core.List.{List, [], _∷_, _++_}
@@ -27,16 +27,16 @@ unfoldable pub countsFit : Plants → Bool
 countsFit s = leb (s .crashes) limit && leb (s .restarts) limit && leb (s .reboots) limit
 
 -- no flag is set past n, and no count is over the limit
-unfoldable pub wellFormed : Plants → Bool
-wellFormed s = noneSet (drop (s .n) (s .up)) && noneSet (drop (s .n) (s .partitioned)) && countsFit s
+unfoldable pub plantsFormed : Plants → Bool
+plantsFormed s = noneSet (drop (s .n) (s .up)) && noneSet (drop (s .n) (s .partitioned)) && countsFit s
 
 -- the tests of a state, which come first in every call: 40 and then 42
 unfoldable pub tested : Plants → Test
-tested s = must (plantCount (s .n)) PlantCount then must (wellFormed s) IllFormed
+tested s = must (plantCount (s .n)) PlantCount then must (plantsFormed s) IllFormed
 
 -- all n up, and zeros
-abbrev pub fresh : ℕ → Plants
-fresh n =
+abbrev pub freshPlants : ℕ → Plants
+freshPlants n =
     record {
       n = n;
       up = replicate n true ++ replicate (most - n) false;
@@ -49,9 +49,9 @@ fresh n =
 
 -- all zeros
 abbrev pub blank : Plants
-blank = fresh 0
+blank = freshPlants 0
 
 -- a new state
-unfoldable pub made : ℕ → Next
-made n =
-    cond (plantCount n) (record { plants = fresh n; outcome = Done }) (record { plants = blank; outcome = Refused PlantCount })
+unfoldable pub newPlants : ℕ → Next
+newPlants n =
+    cond (plantCount n) (record { plants = freshPlants n; outcome = Done }) (record { plants = blank; outcome = Refused PlantCount })

@@ -52,5 +52,5 @@ abbrev pub judgedIf : Test → Plants → Origin → ℕ → Judged
 judgedIf Passed s from to = Is (verdictOf s from to)
 judgedIf (Failed r) s from to = Refused r
 
-unfoldable pub judged : Plants → Origin → ℕ → Judged
-judged s from to = judgedIf (verdictTested s from to) s from to
+unfoldable pub verdictGiven : Plants → Origin → ℕ → Judged
+verdictGiven s from to = judgedIf (verdictTested s from to) s from to

@@ -11,9 +11,9 @@ ghost use mathlib.Core.Bool.{true, false};
 ghost use mathlib.Core.List.{_++_};
 ghost use Prim.Native.Nat.{_-_, _≤_, _<_};
 ghost use lib.ListN.{length, drop, replicate, set};
-ghost use Rattle.plants.specs.State.{limit, fresh, made, tested, countsFit, noneSet};
-ghost use Rattle.plants.specs.Faults.{after, applied, answered, knows, parted};
-ghost use Rattle.plants.specs.Verdicts.{verdictNumber, verdictBy, judged};
+ghost use Rattle.plants.specs.State.{limit, freshPlants, newPlants, tested, countsFit, noneSet};
+ghost use Rattle.plants.specs.Faults.{afterFault, applied, answered, knows, parted};
+ghost use Rattle.plants.specs.Verdicts.{verdictNumber, verdictBy, verdictGiven};
 
 // The most that a count may be, 2^62: so a count that rises by a few never wraps.
 pub const LIMIT: u64 = 4611686018427387904;
@@ -140,7 +140,7 @@ fn answer(fault: Fault, draws: &[u64]) -> Outcome
 impl Plants {
     // Fresh plants: all n up, none partitioned, nothing counted.
     pub fn new(n: usize) -> Next
-        ensures { λ r. ⌜ r ≡ made n ⌝ }
+        ensures { λ r. ⌜ r ≡ newPlants n ⌝ }
     {
         if !basis::plant_count(n) {
             return Next {
@@ -157,7 +157,7 @@ impl Plants {
     // The first n plants up, and all else zero.
     fn fresh(n: usize) -> Plants
         requires { ⌜ n ≤ 15 ⌝ }
-        ensures { λ r. ⌜ r ≡ fresh n ⌝ }
+        ensures { λ r. ⌜ r ≡ freshPlants n ⌝ }
     {
         let up = first_set(n);
         Plants {
@@ -218,7 +218,7 @@ impl Plants {
     // A crash counts only if the plant is up.
     fn crashed(self, id: usize, tick: u64) -> Plants
         requires { ⌜ (id < 15) × (self .crashes ≤ limit) ⌝ }
-        ensures { λ r. ⌜ r ≡ after self tick (Fault.Crash id) ⌝ }
+        ensures { λ r. ⌜ r ≡ afterFault self tick (Fault.Crash id) ⌝ }
     {
         let mut me = self;
         let was_up = me.up[id];
@@ -231,7 +231,7 @@ impl Plants {
     // A restart counts only if the plant is down.
     fn restarted(self, id: usize, tick: u64) -> Plants
         requires { ⌜ (id < 15) × (self .restarts ≤ limit) ⌝ }
-        ensures { λ r. ⌜ r ≡ after self tick (Fault.Restart id) ⌝ }
+        ensures { λ r. ⌜ r ≡ afterFault self tick (Fault.Restart id) ⌝ }
     {
         let mut me = self;
         let was_up = me.up[id];
@@ -244,7 +244,7 @@ impl Plants {
     // A reboot always counts, as a reboot and as a restart.
     fn rebooted(self, id: usize, tick: u64) -> Plants
         requires { ⌜ (id < 15) × (self .restarts ≤ limit) × (self .reboots ≤ limit) ⌝ }
-        ensures { λ r. ⌜ r ≡ after self tick (Fault.Reboot id) ⌝ }
+        ensures { λ r. ⌜ r ≡ afterFault self tick (Fault.Reboot id) ⌝ }
     {
         let mut me = self;
         me.restarts = me.restarts + 1;
@@ -266,7 +266,7 @@ impl Plants {
 
     // Every plant reconnected.
     fn healed(self) -> Plants
-        ensures { λ r. ⌜ r ≡ after self 0 Fault.HealAll ⌝ }
+        ensures { λ r. ⌜ r ≡ afterFault self 0 Fault.HealAll ⌝ }
     {
         let mut me = self;
         me.partitioned = [false; 15];
@@ -276,7 +276,7 @@ impl Plants {
     // The plants after a fault.
     fn after(self, tick: u64, fault: Fault) -> Plants
         requires { ⌜ (tested self ≡ Test.Passed) × (knows self fault ≡ true) ⌝ }
-        ensures { λ r. ⌜ r ≡ after self tick fault ⌝ }
+        ensures { λ r. ⌜ r ≡ afterFault self tick fault ⌝ }
     {
         match fault {
             Fault::Crash(id) => self.crashed(id as usize, tick),
@@ -327,7 +327,7 @@ impl Plants {
 
     // What becomes of a message that is due at plant `to`.
     pub fn verdict(self, from: Origin, to: u64) -> Judged
-        ensures { λ r. ⌜ r ≡ judged self from to ⌝ }
+        ensures { λ r. ⌜ r ≡ verdictGiven self from to ⌝ }
     {
         if let Test::Failed(refusal) = self.test() {
             return Judged::Refused(refusal);

@@ -1,7 +1,7 @@
 // Why a call on the plants is refused. One family of refusals serves the plants and the choice of a
 // core; each call says which of them it tests, and in which order.
 ghost use mathlib.Core.Path.{_≡_};
-ghost use Rattle.plants.specs.Refusals.{refusalNumber};
+ghost use Rattle.plants.specs.Refusals.{plantsRefusal};
 
 pub enum Refusal {
     // The number of plants is not 3 to 15.
@@ -33,7 +33,7 @@ pub enum Test {
 impl Refusal {
     // Its number in the rules.
     pub fn number(self) -> u64
-        ensures { λ r. ⌜ r ≡ refusalNumber self ⌝ }
+        ensures { λ r. ⌜ r ≡ plantsRefusal self ⌝ }
     {
         match self {
             Refusal::PlantCount => 40,

@@ -11,23 +11,23 @@ use lib.Seq.{take-at, take-all, take-append-le, drop-append-le}
 use Rattle.basis.specs.Basis.{quorum}
 use Rattle.basis.proofs.Laws.{both}
 use Rattle.plants_lineup.specs.Shuffle.{shuffled, picksWithin}
-use Rattle.plants_lineup.specs.Core.{idsFrom, those, tally, isHealthy, isRecovering, candidates, staying, filler, lineUp, flagsFit, healthyCount}
+use Rattle.plants_lineup.specs.Core.{idsFrom, those, tally, isHealthy, isRecovering, candidates, staying, filler, lineUp, recoveringFit, healthyCount}
 use Rattle.plants_lineup.proofs.Tallies.{Permutation, tally-append, tally-parts, tally-split, same-length}
 use Rattle.plants_lineup.proofs.Ids.{length-ids, ids-below}
 use Rattle.plants_lineup.proofs.Shuffling.{shuffle-permutes}
 
 -- ---- flags of 0 and 1
-flag-small : (flags : List ℕ) → flagsFit flags ≡ true → (x : ℕ) → getD flags x 0 ≤ 1
-unfolding flagsFit
+flag-small : (flags : List ℕ) → recoveringFit flags ≡ true → (x : ℕ) → getD flags x 0 ≤ 1
+unfolding recoveringFit
 flag-small [] e x = omega arith
-flag-small (f ∷ flags) e zero = leb-true f 1 (both (leb f 1) (flagsFit flags) e .0)
-flag-small (f ∷ flags) e (suc x) = flag-small flags (both (leb f 1) (flagsFit flags) e .1) x
+flag-small (f ∷ flags) e zero = leb-true f 1 (both (leb f 1) (recoveringFit flags) e .0)
+flag-small (f ∷ flags) e (suc x) = flag-small flags (both (leb f 1) (recoveringFit flags) e .1) x
 
 one-or-none : (m : ℕ) → m ≤ 1 → eqb m 1 ≡ not (eqb m 0)
 one-or-none zero h = refl
 one-or-none (suc m) h = let z : suc m ≡ 1 = omega arith in rw z
 
-module _ (flags : List ℕ) (fit : flagsFit flags ≡ true) where
+module _ (flags : List ℕ) (fit : recoveringFit flags ≡ true) where
   apart : (x : ℕ) → isRecovering flags x ≡ not (isHealthy flags x)
   apart x = one-or-none (getD flags x 0) (flag-small flags fit x)
 
@@ -84,7 +84,7 @@ arranged n flags ids picks line new k e h f g =
     ∙ ap (λ (x : List ℕ). take (quorum n) healthy ++ shuffled picks x) (behind healthy others (quorum n) h))
 
 -- ---- the line
-module _ (n : ℕ) (flags first second : List ℕ) (fit : flagsFit flags ≡ true) (enough : quorum n ≤ healthyCount n flags)
+module _ (n : ℕ) (flags first second : List ℕ) (fit : recoveringFit flags ≡ true) (enough : quorum n ≤ healthyCount n flags)
     (first-within : picksWithin (n - 1) first ≡ true) (second-within : picksWithin (n - quorum n - 1) second ≡ true) where
   pub dealt : Permutation (candidates n first) (idsFrom 0 n)
   dealt = shuffle-permutes first (idsFrom 0 n) (rw (length-ids 0 n) first-within)
@@ -134,7 +134,7 @@ module _ (n : ℕ) (flags first second : List ℕ) (fit : flagsFit flags ≡ tru
     ids-known = rw (e, same) (dealt (leb n) ∙ ids-below n 0 n (omega arith))
 
     pub ready : (k : ℕ) → k ≡ n → 3 ≤ n → n - quorum n - 1 ≤ length second
-        → ((tally (leb (length flags)) ids ≡ 0) × (flagsFit flags ≡ true) × (k ≡ length ids))
+        → ((tally (leb (length flags)) ids ≡ 0) × (recoveringFit flags ≡ true) × (k ≡ length ids))
         × (((quorum (length ids) ≤ tally (isHealthy flags) ids) × (quorum (length ids) < length ids))
         × ((length ids - quorum (length ids) ≤ length second + 1) × (picksWithin (length ids - quorum (length ids) - 1) second ≡ true)))
     ready k h few long =

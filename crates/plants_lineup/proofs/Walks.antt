@@ -13,22 +13,22 @@ use lib.Seq.{drop-cons, drop-drop, getD-drop, set-at, length-take-le, take-all}
 use Rattle.basis.specs.Basis.{bit}
 use Rattle.basis.proofs.Laws.{both}
 use Rattle.plants_lineup.specs.Shuffle.{swapped, shuffledFrom, picksWithin}
-use Rattle.plants_lineup.specs.Core.{idsFrom, those, tally, flagsFit}
+use Rattle.plants_lineup.specs.Core.{idsFrom, those, tally, recoveringFit}
 use Rattle.plants_lineup.proofs.Tallies.{tally-cons, tally-parts, those-more}
 use Rattle.plants_lineup.proofs.Ids.{peel}
 
 -- ---- flags
 module _ (flags : List ℕ) (i : ℕ) where
-  pub flag-fits : i < length flags → getD flags i 0 ≤ 1 → flagsFit (drop i flags) ≡ flagsFit (drop (i + 1) flags)
-  unfolding flagsFit
+  pub flag-fits : i < length flags → getD flags i 0 ≤ 1 → recoveringFit (drop i flags) ≡ recoveringFit (drop (i + 1) flags)
+  unfolding recoveringFit
   flag-fits h e = rw (add-one i, drop-cons flags i 0 h, le-leb (getD flags i 0) 1 e)
 
-  pub flag-over : i < length flags → 1 < getD flags i 0 → flagsFit (drop i flags) ≡ false
-  unfolding flagsFit
+  pub flag-over : i < length flags → 1 < getD flags i 0 → recoveringFit (drop i flags) ≡ false
+  unfolding recoveringFit
   flag-over h e = rw (drop-cons flags i 0 h, lt-leb (getD flags i 0) 1 e)
 
-  pub flags-end : length flags ≤ i → flagsFit (drop i flags) ≡ true
-  unfolding flagsFit
+  pub flags-end : length flags ≤ i → recoveringFit (drop i flags) ≡ true
+  unfolding recoveringFit
   flags-end h = rw (drop-of-length-le flags h)
 
 -- ---- how many plants from i up to n pass a test

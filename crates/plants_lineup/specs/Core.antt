@@ -59,9 +59,9 @@ abbrev pub isRecovering : List ℕ → ℕ → Bool
 isRecovering flags id = hasFlag flags 1 id
 
 -- no flag is over 1
-unfoldable pub flagsFit : List ℕ → Bool
-flagsFit [] = true
-flagsFit (f ∷ fs) = leb f 1 && flagsFit fs
+unfoldable pub recoveringFit : List ℕ → Bool
+recoveringFit [] = true
+recoveringFit (f ∷ fs) = leb f 1 && recoveringFit fs
 
 -- how many of n plants are healthy
 unfoldable pub healthyCount : ℕ → List ℕ → ℕ
@@ -83,16 +83,16 @@ unfoldable pub lineUp : ℕ → List ℕ → List ℕ → List ℕ → List ℕ
 lineUp n flags first second =
     staying n flags (candidates n first) ++ shuffled second (filler n flags (candidates n first))
 
--- sorted, by insertion of one after the other
-unfoldable pub inserted : ℕ → List ℕ → List ℕ
-inserted x [] = x ∷ []
-inserted x (y ∷ ys) = cond (leb x y) (x ∷ y ∷ ys) (y ∷ inserted x ys)
+-- sortedIds, by insertion of one after the other
+unfoldable pub insertedId : ℕ → List ℕ → List ℕ
+insertedId x [] = x ∷ []
+insertedId x (y ∷ ys) = cond (leb x y) (x ∷ y ∷ ys) (y ∷ insertedId x ys)
 
-unfoldable pub sorted : List ℕ → List ℕ
-sorted [] = []
-sorted (x ∷ xs) = inserted x (sorted xs)
+unfoldable pub sortedIds : List ℕ → List ℕ
+sortedIds [] = []
+sortedIds (x ∷ xs) = insertedId x (sortedIds xs)
 
--- the core: cut to size, and sorted
+-- the core: cut to size, and sortedIds
 unfoldable pub coreOf : ℕ → List ℕ → List ℕ → Bool → List ℕ
 coreOf n flags picks full =
-    sorted (take (coreSize n picks full) (lineUp n flags (firstPicks picks full) (secondPicks n picks full)))
+    sortedIds (take (coreSize n picks full) (lineUp n flags (firstPicks picks full) (secondPicks n picks full)))

@@ -8,11 +8,11 @@ ghost use lib.Dec.{leb};
 ghost use lib.ListN.{length, take, drop, replicate};
 ghost use Rattle.plants_lineup.specs.Shuffle.{shuffled, picksWithin};
 ghost use Rattle.basis.specs.Basis.{quorum};
-ghost use Rattle.plants_lineup.specs.Core.{idsFrom, those, tally, hasFlag, isHealthy, isRecovering, flagsFit, healthyCount, candidates, staying, filler, lineUp};
+ghost use Rattle.plants_lineup.specs.Core.{idsFrom, those, tally, hasFlag, isHealthy, isRecovering, recoveringFit, healthyCount, candidates, staying, filler, lineUp};
 
 // Whether no flag is over 1.
 pub fn flags_fit(flags: &[u64]) -> bool
-    ensures { λ r. ⌜ r ≡ flagsFit (now (flags .entry)) ⌝ }
+    ensures { λ r. ⌜ r ≡ recoveringFit (now (flags .entry)) ⌝ }
 {
     let mut i: usize = 0;
     while i < flags.len() {
@@ -119,7 +119,7 @@ fn deal(ids: &mut [u64], picks: &[u64])
 
 // Writes the healthy of the ids, then the recovering, each in their order.
 fn split(ids: &[u64], flags: &[u64], line: &mut [u64])
-    requires { ⌜ (tally (leb (length (now flags))) (now ids) ≡ 0) × (flagsFit (now flags) ≡ true) × (length (now line) ≡ length (now ids)) ⌝ }
+    requires { ⌜ (tally (leb (length (now flags))) (now ids) ≡ 0) × (recoveringFit (now flags) ≡ true) × (length (now line) ≡ length (now ids)) ⌝ }
     ensures { λ _. ⌜ now (line .exit) ≡ those (isHealthy (now (flags .entry))) (now (ids .entry)) ++ those (isRecovering (now (flags .entry))) (now (ids .entry)) ⌝ }
 {
     let healthy = append(ids, flags, 0, line, 0);
@@ -129,7 +129,7 @@ fn split(ids: &[u64], flags: &[u64], line: &mut [u64])
 // Writes the ids in the order in which the core takes them: a quorum of the healthy stays in front,
 // and the others are shuffled.
 fn arrange(ids: &[u64], flags: &[u64], picks: &[u64], line: &mut [u64])
-    requires { ⌜ (tally (leb (length (now flags))) (now ids) ≡ 0) × (flagsFit (now flags) ≡ true) × (length (now line) ≡ length (now ids)) ⌝ }
+    requires { ⌜ (tally (leb (length (now flags))) (now ids) ≡ 0) × (recoveringFit (now flags) ≡ true) × (length (now line) ≡ length (now ids)) ⌝ }
     requires { ⌜ (quorum (length (now ids)) ≤ tally (isHealthy (now flags)) (now ids)) × (quorum (length (now ids)) < length (now ids)) ⌝ }
     requires { ⌜ (length (now ids) - quorum (length (now ids)) ≤ length (now picks) + 1) × (picksWithin (length (now ids) - quorum (length (now ids)) - 1) (now picks) ≡ true) ⌝ }
     ensures { λ _. ⌜ now (line .exit) ≡ staying (length (now (ids .entry))) (now (flags .entry)) (now (ids .entry)) ++ shuffled (now (picks .entry)) (filler (length (now (ids .entry))) (now (flags .entry)) (now (ids .entry))) ⌝ }
@@ -141,7 +141,7 @@ fn arrange(ids: &[u64], flags: &[u64], picks: &[u64], line: &mut [u64])
 
 // The n plants in the order in which the core takes them, and zeros.
 pub fn line_up(n: usize, flags: &[u64], first: &[u64], second: &[u64]) -> [u64; 15]
-    requires { ⌜ (3 ≤ n) × (n ≤ 15) × (length (now flags) ≡ n) × (flagsFit (now flags) ≡ true) × (quorum n ≤ healthyCount n (now flags)) ⌝ }
+    requires { ⌜ (3 ≤ n) × (n ≤ 15) × (length (now flags) ≡ n) × (recoveringFit (now flags) ≡ true) × (quorum n ≤ healthyCount n (now flags)) ⌝ }
     requires { ⌜ (n - 1 ≤ length (now first)) × (picksWithin (n - 1) (now first) ≡ true) ⌝ }
     requires { ⌜ (n - quorum n - 1 ≤ length (now second)) × (picksWithin (n - quorum n - 1) (now second) ≡ true) ⌝ }
     ensures { λ r. ⌜ r ≡ lineUp n (now (flags .entry)) (now (first .entry)) (now (second .entry)) ++ replicate (15 - n) 0 ⌝ }

@@ -15,7 +15,7 @@ use Rattle.plants.specs.declared.refusal.Refusal.{Refusal}
 use Rattle.plants.specs.declared.refusal.Refusal.the-variants.{BadFlags, TooFewHealthy, TooFewPicks, PickOutOfRange}
 use Rattle.plants.specs.declared.refusal.Test.the-variants.{Passed, Failed}
 use Rattle.plants.proofs.Testing.{both-pass, holds, bounds}
-use Rattle.plants_lineup.specs.Core.{picksUsed, picksInRange, flagsFit, healthyCount}
+use Rattle.plants_lineup.specs.Core.{picksUsed, picksInRange, recoveringFit, healthyCount}
 use Rattle.plants_liveness.specs.Choice.{lentTested}
 
 module _ (s : Plants) (flags picks : List ℕ) (full : Bool) where
@@ -29,11 +29,11 @@ module _ (s : Plants) (flags picks : List ℕ) (full : Bool) where
     other-length h = rw (e, ne-eqb (length flags) (s .n) h)
 
     module _ (m : length flags ≡ s .n) where
-      pub flag-over : flagsFit flags ≡ false → Failed BadFlags ≡ lentTested s flags picks full
+      pub flag-over : recoveringFit flags ≡ false → Failed BadFlags ≡ lentTested s flags picks full
       unfolding lentTested
       flag-over f = rw (e, eq-eqb (length flags) (s .n) m, f)
 
-      module _ (f : flagsFit flags ≡ true) where
+      module _ (f : recoveringFit flags ≡ true) where
         pub too-few-healthy : healthyCount (s .n) flags < quorum (s .n) → Failed TooFewHealthy ≡ lentTested s flags picks full
         unfolding lentTested
         too-few-healthy h = rw (e, eq-eqb (length flags) (s .n) m, f, lt-leb (quorum (s .n)) (healthyCount (s .n) flags) h)
@@ -56,7 +56,7 @@ pub record Ready (n : ℕ) (flags picks : List ℕ) (full : Bool) : Type 0 where
   pub few : fewest ≤ n
   pub many : n ≤ most
   pub same : length flags ≡ n
-  pub fit : flagsFit flags ≡ true
+  pub fit : recoveringFit flags ≡ true
   pub healthy : quorum n ≤ healthyCount n flags
   pub enough : picksUsed n full ≤ length picks
   pub within : picksInRange n picks full ≡ true
@@ -67,12 +67,12 @@ lent-passed s flags picks full e =
     let range = must (picksInRange (s .n) picks full) PickOutOfRange in
     let many = must (leb (picksUsed (s .n) full) (length picks)) TooFewPicks in
     let well = must (leb (quorum (s .n)) (healthyCount (s .n) flags)) TooFewHealthy in
-    let good = must (eqb (length flags) (s .n) && flagsFit flags) BadFlags in
+    let good = must (eqb (length flags) (s .n) && recoveringFit flags) BadFlags in
     let a = both-pass (tested s) (good then well then many then range) e in
     let b = both-pass good (well then many then range) (a .1) in
     let c = both-pass well (many then range) (b .1) in
     let d = both-pass many range (c .1) in
-    let g = both (eqb (length flags) (s .n)) (flagsFit flags) (holds (eqb (length flags) (s .n) && flagsFit flags) BadFlags (b .0)) in (
+    let g = both (eqb (length flags) (s .n)) (recoveringFit flags) (holds (eqb (length flags) (s .n) && recoveringFit flags) BadFlags (b .0)) in (
       a .0,
       record {
         few = bounds s (a .0) .0;

@@ -12,7 +12,7 @@ use Rattle.plants.specs.declared.Plants.{Plants}
 use Rattle.plants.specs.declared.refusal.Refusal.the-variants.{CountFull, BadFlags, TooFewPicks, PickOutOfRange, TooFewHealthy}
 use Rattle.plants.specs.declared.refusal.Test.{Test}
 use Rattle.plants.specs.declared.refusal.Test.the-variants.{Passed, Failed}
-use Rattle.plants_lineup.specs.Core.{picksUsed, coreSize, picksInRange, flagsFit, healthyCount, coreOf}
+use Rattle.plants_lineup.specs.Core.{picksUsed, coreSize, picksInRange, recoveringFit, healthyCount, coreOf}
 use Rattle.plants_liveness.specs.declared.Chosen.{Chosen}
 use Rattle.plants_liveness.specs.declared.Choice.the-variants.{Made, Refused}
 
@@ -60,7 +60,7 @@ settled s core = settledBy s (upAfter core)
 unfoldable pub lentTested : Plants → List ℕ → List ℕ → Bool → Test
 lentTested s flags picks full =
     tested s
-    then must (eqb (length flags) (s .n) && flagsFit flags) BadFlags
+    then must (eqb (length flags) (s .n) && recoveringFit flags) BadFlags
     then must (leb (quorum (s .n)) (healthyCount (s .n) flags)) TooFewHealthy
     then must (leb (picksUsed (s .n) full) (length picks)) TooFewPicks
     then must (picksInRange (s .n) picks full) PickOutOfRange

@@ -12,7 +12,7 @@ ghost use lib.Dec.{leb};
 ghost use lib.ListN.{length};
 ghost use Rattle.plants.specs.State.{limit};
 ghost use Rattle.basis.specs.Basis.{bit, quorum};
-ghost use Rattle.plants_lineup.specs.Core.{sizePicks, picksUsed, coreSize, picksInRange, idsFrom, those, tally, coreOf, flagsFit, healthyCount};
+ghost use Rattle.plants_lineup.specs.Core.{sizePicks, picksUsed, coreSize, picksInRange, idsFrom, those, tally, coreOf, recoveringFit, healthyCount};
 ghost use Rattle.plants_liveness.specs.Choice.{lentTested, inCore, upAfter, isSet, risen, settledBy, padded, chosen};
 
 // A core of so many plants, chosen by so many picks, or why there is none.
@@ -122,7 +122,7 @@ fn members(ids: &[u64]) -> [bool; 15]
 
 // Which plants are in the core that the picks choose.
 fn in_core(n: usize, recovering: &[u64], picks: &[u64], full: bool) -> [bool; 15]
-    requires { ⌜ (3 ≤ n) × (n ≤ 15) × (length (now recovering) ≡ n) × (flagsFit (now recovering) ≡ true) × (quorum n ≤ healthyCount n (now recovering)) ⌝ }
+    requires { ⌜ (3 ≤ n) × (n ≤ 15) × (length (now recovering) ≡ n) × (recoveringFit (now recovering) ≡ true) × (quorum n ≤ healthyCount n (now recovering)) ⌝ }
     requires { ⌜ (picksUsed n full ≤ length (now picks)) × (picksInRange n (now picks) full ≡ true) ⌝ }
     ensures { λ r. ⌜ r ≡ upAfter (coreOf n (now (recovering .entry)) (now (picks .entry)) full) ⌝ }
 {

@@ -10,10 +10,10 @@ use denote.Enum.Declared.{tagOf}
 use Rattle.plants.proofs.Outcome as outcome
 use borrow.Author.Tests.{le-leb, lt-leb, ne-eqb}
 use lib.ListN.{getD}
-use Rattle.plants.specs.Refusals.{refusalNumber}
+use Rattle.plants.specs.Refusals.{plantsRefusal}
 use Rattle.basis.specs.Basis.{plantCount}
-use Rattle.plants.specs.State.{made}
-use Rattle.plants.specs.Verdicts.{verdictNumber, judged}
+use Rattle.plants.specs.State.{newPlants}
+use Rattle.plants.specs.Verdicts.{verdictNumber, verdictGiven}
 use Rattle.plants.specs.declared.refusal.Refusal.{Refusal}
 use Rattle.plants.specs.declared.refusal.Refusal.the-variants.{PlantCount, UnknownPlant, IllFormed, CountFull, NoNonce, BadFlags, TooFewPicks, PickOutOfRange, TooFewHealthy}
 use Rattle.plants.specs.declared.Verdict.{Verdict}
@@ -25,11 +25,11 @@ use Rattle.plants.specs.declared.Judged.the-variants.{Is, Refused as Unjudged}
 use Rattle.plants_liveness.specs.declared.Chosen.{Chosen}
 use Rattle.plants_liveness.specs.declared.Choice.{Choice}
 use Rattle.plants_liveness.specs.declared.Choice.the-variants.{Made, Refused as Unchosen}
-use Rattle.plants_words.specs.Layout.{plantsIn, wordsOf, shaped, flagsFit, originIn}
-use Rattle.plants_words.specs.Calls.{orElse, onDone, outcomeNumber, newAnswer, newWords, nextOf, applyAnswer, applyWords, drawn, nonceWords, judgedNumber, judgedWord, verdictAnswer, verdictWords, choiceNumber, coreTold, chosenOf, coreAnswer, coreWords, toldBy, coreAnswered}
+use Rattle.plants_words.specs.Layout.{plantsIn, stateWords, shaped, flagWordsFit, originIn}
+use Rattle.plants_words.specs.Calls.{orElse, onZero, outcomeNumber, newAnswer, newWords, nextOf, applyAnswer, applyWords, drawn, nonceWords, judgedNumber, judgedWord, verdictAnswer, verdictWords, choiceNumber, coreTold, chosenOf, coreAnswer, coreWords, coreToldBy, coreAnswered}
 
 -- a refusal's number is not 0
-pub nonzero : (r : Refusal) → refusalNumber r ≡ 0 → ⊥
+pub nonzero : (r : Refusal) → plantsRefusal r ≡ 0 → ⊥
 nonzero PlantCount e = omega arith
 nonzero UnknownPlant e = omega arith
 nonzero IllFormed e = omega arith
@@ -41,12 +41,12 @@ nonzero PickOutOfRange e = omega arith
 nonzero TooFewHealthy e = omega arith
 
 -- ---- words that only an answer of 0 changes
-pub kept : (k : ℕ) (after before : List ℕ) → (k ≡ 0 → ⊥) → before ≡ onDone k after before
-unfolding onDone
+pub kept : (k : ℕ) (after before : List ℕ) → (k ≡ 0 → ⊥) → before ≡ onZero k after before
+unfolding onZero
 kept k after before n = rw (ne-eqb k 0 n)
 
-pub changed : (k : ℕ) (after before : List ℕ) → k ≡ 0 → after ≡ onDone k after before
-unfolding onDone
+pub changed : (k : ℕ) (after before : List ℕ) → k ≡ 0 → after ≡ onZero k after before
+unfolding onZero
 changed k after before e = rw e
 
 pub first : (k more : ℕ) → (k ≡ 0 → ⊥) → orElse k more ≡ k
@@ -68,11 +68,11 @@ module _ (w : List ℕ) where
   too-many h = rw (le-leb 3 (getD w 0 0) (omega arith), lt-leb (getD w 0 0) 15 h)
 
   module _ (l : 3 ≤ getD w 0 0) (u : getD w 0 0 ≤ 15) where
-    pub whole-shape : flagsFit w ≡ true → shaped w ≡ 0
+    pub whole-shape : flagWordsFit w ≡ true → shaped w ≡ 0
     unfolding shaped plantCount
     whole-shape e = rw (le-leb 3 (getD w 0 0) l, le-leb (getD w 0 0) 15 u, e)
 
-    pub bad-flag : flagsFit w ≡ false → shaped w ≡ 42
+    pub bad-flag : flagWordsFit w ≡ false → shaped w ≡ 42
     unfolding shaped plantCount
     bad-flag e = rw (le-leb 3 (getD w 0 0) l, le-leb (getD w 0 0) 15 u, e)
 
@@ -83,21 +83,21 @@ not-refused Done t = refl
 not-refused (Nonce d) t = refl
 not-refused (Refused r) t = ⊎-elim (λ z. absurd (omega arith)) (λ z. absurd (omega arith)) t
 
-module _ (n : ℕ) (w : List ℕ) (next : Next) (e : next ≡ made n) where
+module _ (n : ℕ) (w : List ℕ) (next : Next) (e : next ≡ newPlants n) where
   abbrev pub New : ℕ → List ℕ → Type 0
   New r v = (r ≡ newAnswer n) × (v ≡ newWords n w)
 
   new-number : (o : Outcome) → next .outcome ≡ o → newAnswer n ≡ outcomeNumber o
   new-number o k = ap outcomeNumber (sym (ap (λ (x : Next). x .outcome) e) ∙ k)
 
-  pub new-refused : (o : Refusal) (r : ℕ) → next .outcome ≡ Refused o → r ≡ refusalNumber o → New r w
+  pub new-refused : (o : Refusal) (r : ℕ) → next .outcome ≡ Refused o → r ≡ plantsRefusal o → New r w
   new-refused o r k q =
       let d = q ∙ sym (new-number (Refused o) k) in (d, kept _ _ w (λ z. nonzero o (sym q ∙ (d ∙ z))))
 
-  pub new-done : (v : List ℕ) → outcomeNumber (next .outcome) ≡ 0 → v ≡ wordsOf (next .plants) → New 0 v
+  pub new-done : (v : List ℕ) → outcomeNumber (next .outcome) ≡ 0 → v ≡ stateWords (next .plants) → New 0 v
   new-done v k p =
       let d : newAnswer n ≡ 0 = new-number (next .outcome) refl ∙ k in
-      (sym d, p ∙ (ap (λ (x : Next). wordsOf (x .plants)) e ∙ changed _ _ w d))
+      (sym d, p ∙ (ap (λ (x : Next). stateWords (x .plants)) e ∙ changed _ _ w d))
 
 -- ---- a fault
 module _ (w : List ℕ) (tick fault id : ℕ) (draws told : List ℕ) where
@@ -125,23 +125,23 @@ module _ (w : List ℕ) (tick fault id : ℕ) (draws told : List ℕ) where
       by-outcome : (o : Outcome) → next .outcome ≡ o → applyAnswer w tick fault id draws ≡ outcomeNumber o
       by-outcome o k = answers ∙ (second (shaped w) _ h ∙ ap outcomeNumber (sym (ap (λ (x : Next). x .outcome) e) ∙ k))
 
-      pub fault-refused : (o : Refusal) (r : ℕ) → next .outcome ≡ Refused o → r ≡ refusalNumber o → Applied r w told
+      pub fault-refused : (o : Refusal) (r : ℕ) → next .outcome ≡ Refused o → r ≡ plantsRefusal o → Applied r w told
       fault-refused o r k q = not-applied r (q ∙ sym (by-outcome (Refused o) k)) (λ z. nonzero o (sym q ∙ z))
 
-      applied-well : (o : Outcome) (v t : List ℕ) → next .outcome ≡ o → outcomeNumber o ≡ 0 → v ≡ wordsOf (next .plants) → t ≡ drawn w tick fault id draws o told → Applied 0 v t
+      applied-well : (o : Outcome) (v t : List ℕ) → next .outcome ≡ o → outcomeNumber o ≡ 0 → v ≡ stateWords (next .plants) → t ≡ drawn w tick fault id draws o told → Applied 0 v t
       applied-well o v t k z p q =
           let d = by-outcome o k ∙ z in (
             sym d,
             (
-              p ∙ (ap (λ (x : Next). wordsOf (x .plants)) e ∙ changed _ _ w d),
+              p ∙ (ap (λ (x : Next). stateWords (x .plants)) e ∙ changed _ _ w d),
               q ∙ (ap (λ (x : Outcome). drawn w tick fault id draws x told) (sym k ∙ ap (λ (x : Next). x .outcome) e) ∙ changed _ _ told d),
             ),
           )
 
-      pub fault-nonce : (d : ℕ) (v t : List ℕ) → next .outcome ≡ Nonce d → v ≡ wordsOf (next .plants) → t ≡ d ∷ [] → Applied 0 v t
+      pub fault-nonce : (d : ℕ) (v t : List ℕ) → next .outcome ≡ Nonce d → v ≡ stateWords (next .plants) → t ≡ d ∷ [] → Applied 0 v t
       fault-nonce d v t k p q = applied-well (Nonce d) v t k refl p q
 
-      pub fault-done : (v : List ℕ) → next .outcome ≡ Done → v ≡ wordsOf (next .plants) → Applied 0 v told
+      pub fault-done : (v : List ℕ) → next .outcome ≡ Done → v ≡ stateWords (next .plants) → Applied 0 v told
       fault-done v k p = applied-well Done v told k refl p refl
 
 -- ---- a verdict
@@ -157,18 +157,18 @@ module _ (w : List ℕ) (sort id to : ℕ) (told : List ℕ) where
   unknown-sort h = not-judged 24 (rw (lt-leb sort 1 h)) (λ z. omega arith)
 
   module _ (f : sort ≤ 1) where
-    judges : verdictAnswer w sort id to ≡ orElse (shaped w) (judgedNumber (judged (plantsIn w) (originIn sort id) to))
+    judges : verdictAnswer w sort id to ≡ orElse (shaped w) (judgedNumber (verdictGiven (plantsIn w) (originIn sort id) to))
     unfolding verdictAnswer
     judges = rw (le-leb sort 1 f)
 
     pub verdict-misshapen : (r : ℕ) → r ≡ shaped w → (r ≡ 0 → ⊥) → Judging r told
     verdict-misshapen r e n = not-judged r (sym (judges ∙ (first (shaped w) _ (λ z. n (e ∙ z)) ∙ sym e))) n
 
-    module _ (h : shaped w ≡ 0) (j : Judged) (e : j ≡ judged (plantsIn w) (originIn sort id) to) where
+    module _ (h : shaped w ≡ 0) (j : Judged) (e : j ≡ verdictGiven (plantsIn w) (originIn sort id) to) where
       by-judged : (o : Judged) → j ≡ o → verdictAnswer w sort id to ≡ judgedNumber o
       by-judged o k = judges ∙ (second (shaped w) _ h ∙ ap judgedNumber (sym e ∙ k))
 
-      pub verdict-refused : (o : Refusal) (r : ℕ) → j ≡ Unjudged o → r ≡ refusalNumber o → Judging r told
+      pub verdict-refused : (o : Refusal) (r : ℕ) → j ≡ Unjudged o → r ≡ plantsRefusal o → Judging r told
       verdict-refused o r k q = not-judged r (q ∙ sym (by-judged (Unjudged o) k)) (λ z. nonzero o (sym q ∙ z))
 
       pub verdict-is : (v : Verdict) (t : List ℕ) → j ≡ Is v → t ≡ verdictNumber v ∷ [] → Judging 0 t
@@ -195,15 +195,15 @@ module _ (w recovering picks : List ℕ) (full : ℕ) (told : List ℕ) where
     unfolding coreAnswer
     by-choice o k = second (shaped w) _ h ∙ ap choiceNumber (sym (ap (λ (x : Chosen). x .choice) e) ∙ k)
 
-    pub core-refused : (o : Refusal) (r : ℕ) → c .choice ≡ Unchosen o → r ≡ refusalNumber o → Choosing r w told
+    pub core-refused : (o : Refusal) (r : ℕ) → c .choice ≡ Unchosen o → r ≡ plantsRefusal o → Choosing r w told
     core-refused o r k q = not-chosen r (q ∙ sym (by-choice (Unchosen o) k)) (λ z. nonzero o (sym q ∙ z))
 
-    pub core-made : (size used : ℕ) (v t : List ℕ) → c .choice ≡ Made size used → v ≡ wordsOf (c .plants) → t ≡ coreTold size used (c .core) → Choosing 0 v t
+    pub core-made : (size used : ℕ) (v t : List ℕ) → c .choice ≡ Made size used → v ≡ stateWords (c .plants) → t ≡ coreTold size used (c .core) → Choosing 0 v t
     core-made size used v t k p q =
         let d : coreAnswer w recovering picks full ≡ 0 = by-choice (Made size used) k in (
           sym d,
           (
-            p ∙ (ap (λ (x : Chosen). wordsOf (x .plants)) e ∙ changed _ _ w d),
-            q ∙ (ap (λ (x : Chosen). coreTold size used (x .core)) e ∙ (ap (λ (x : Choice). toldBy w recovering picks full x told) (sym k ∙ ap (λ (x : Chosen). x .choice) e) ∙ changed _ _ told d)),
+            p ∙ (ap (λ (x : Chosen). stateWords (x .plants)) e ∙ changed _ _ w d),
+            q ∙ (ap (λ (x : Chosen). coreTold size used (x .core)) e ∙ (ap (λ (x : Choice). coreToldBy w recovering picks full x told) (sym k ∙ ap (λ (x : Chosen). x .choice) e) ∙ changed _ _ told d)),
           ),
         )

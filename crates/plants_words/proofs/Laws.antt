@@ -10,7 +10,7 @@ use lib.Seq.{take-at, drop-at, drop-drop, getD-drop}
 use Rattle.script.specs.Faults.{faultNumber}
 use Rattle.basis.specs.Basis.{plantCount}
 use Rattle.plants.specs.declared.Plants.{Plants}
-use Rattle.plants_words.specs.Layout.{bits, flagsIn, allBits, flagsFit, plantsIn, wordsOf, shaped, faultIn}
+use Rattle.plants_words.specs.Layout.{bits, flagsIn, allBits, flagWordsFit, plantsIn, stateWords, shaped, faultIn}
 use Rattle.plants_words.proofs.Walking.{length-bits}
 
 -- flags to words and back
@@ -64,7 +64,7 @@ module _ (s : Plants) (u : length (s .up) ≡ 15) (p : length (s .partitioned) �
   partitioned₁₅ : length (bits (s .partitioned)) ≡ 15
   partitioned₁₅ = length-bits (s .partitioned) ∙ p
 
-  pub words-length : length (wordsOf s) ≡ 49
+  pub words-length : length (stateWords s) ≡ 49
   words-length =
       omega (
         arith,
@@ -75,7 +75,7 @@ module _ (s : Plants) (u : length (s .up) ≡ 15) (p : length (s .partitioned) �
         length-append (s .«stable_until») counts,
       )
 
-  pub read-back : plantsIn (wordsOf s) ≡ s
+  pub read-back : plantsIn (stateWords s) ≡ s
   read-back =
       let q = part₁ (bits (s .up)) (bits (s .partitioned)) (s .«stable_until») counts up₁₅ partitioned₁₅ t in
       let r = part₂ (bits (s .up)) (bits (s .partitioned)) (s .«stable_until») counts up₁₅ partitioned₁₅ t in
@@ -83,13 +83,13 @@ module _ (s : Plants) (u : length (s .up) ≡ 15) (p : length (s .partitioned) �
       let z = past (bits (s .up)) (bits (s .partitioned)) (s .«stable_until») counts up₁₅ partitioned₁₅ t in
       rw (q, r, v, z 0, z 1, z 2, flags-back (s .up), flags-back (s .partitioned))
 
-  flags-fit : flagsFit (wordsOf s) ≡ true
+  flags-fit : flagWordsFit (stateWords s) ≡ true
   flags-fit =
       let l : List ℕ = s .«stable_until» ++ counts in
       let z : take 30 (bits (s .up) ++ (bits (s .partitioned) ++ l)) ≡ bits (s .up) ++ bits (s .partitioned) = rw (← append-assoc) (take-at (bits (s .up) ++ bits (s .partitioned)) l 30 (length-append (bits (s .up)) (bits (s .partitioned)) ∙ omega (arith, up₁₅, partitioned₁₅))) in
       ap allBits z ∙ fit-before (s .up) (bits (s .partitioned)) (fit (s .partitioned))
 
-  pub well-shaped : plantCount (s .n) ≡ true → shaped (wordsOf s) ≡ 0
+  pub well-shaped : plantCount (s .n) ≡ true → shaped (stateWords s) ≡ 0
   unfolding shaped
   well-shaped e = rw (e, flags-fit)
 

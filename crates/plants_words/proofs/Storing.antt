@@ -5,7 +5,7 @@ use mathlib.Core.List.{List, [], _∷_, _++_, append-assoc}
 use native.Mathlib.Omega.{arith}
 use lib.ListN.{length, take, drop, set, length-append, length-take, length-drop, length-set}
 use Rattle.plants.specs.declared.Plants.{Plants}
-use Rattle.plants_words.specs.Layout.{bits, wordsOf}
+use Rattle.plants_words.specs.Layout.{bits, stateWords}
 use Rattle.plants_words.proofs.Writing.{front, last-three}
 use Rattle.plants_words.proofs.Walking.{length-bits}
 
@@ -44,7 +44,7 @@ module _ (s : Plants) (w : List ℕ) (e : length w ≡ 49) (u : length (s .up) �
           (length-append (s .n ∷ bits (s .up)) (bits (s .partitioned)) ∙ omega (arith, length-bits (s .up), length-bits (s .partitioned)))
           t front₂ k₃
 
-      pub stored : set (set (set w₃ 46 (s .crashes)) 47 (s .restarts)) 48 (s .reboots) ≡ wordsOf s
+      pub stored : set (set (set w₃ 46 (s .crashes)) 47 (s .restarts)) 48 (s .reboots) ≡ stateWords s
       stored =
           last-three w₃ (((s .n ∷ bits (s .up)) ++ bits (s .partitioned)) ++ s .«stable_until») 46 (s .crashes) (s .restarts) (s .reboots) size₃ front₃
           ∙ simp append-assoc

@@ -4,10 +4,10 @@ use Prim.Native.Nat.{ℕ}
 use mathlib.Core.Bool.{cond, not}
 use mathlib.Core.List.{List, [], _∷_}
 use lib.Dec.{leb, eqb}
-use Rattle.plants.specs.Refusals.{refusalNumber}
-use Rattle.plants.specs.State.{made}
+use Rattle.plants.specs.Refusals.{plantsRefusal}
+use Rattle.plants.specs.State.{newPlants}
 use Rattle.plants.specs.Faults.{applied}
-use Rattle.plants.specs.Verdicts.{verdictNumber, judged}
+use Rattle.plants.specs.Verdicts.{verdictNumber, verdictGiven}
 use Rattle.plants.specs.declared.Next.{Next}
 use Rattle.plants.specs.declared.Outcome.{Outcome}
 use Rattle.plants.specs.declared.Outcome.the-variants.{Done, Nonce, Refused}
@@ -17,27 +17,27 @@ use Rattle.plants_liveness.specs.Choice.{chosen}
 use Rattle.plants_liveness.specs.declared.Chosen.{Chosen}
 use Rattle.plants_liveness.specs.declared.Choice.{Choice}
 use Rattle.plants_liveness.specs.declared.Choice.the-variants.{Made, Refused as Unchosen}
-use Rattle.plants_words.specs.Layout.{plantsIn, wordsOf, shaped, faultIn, originIn}
+use Rattle.plants_words.specs.Layout.{plantsIn, stateWords, shaped, faultIn, originIn}
 
 -- a number, and another where it is 0
 unfoldable pub orElse : ℕ → ℕ → ℕ
 orElse k more = cond (eqb k 0) more k
 
 -- words that only an answer of 0 changes
-unfoldable pub onDone : ℕ → List ℕ → List ℕ → List ℕ
-onDone k after before = cond (eqb k 0) after before
+unfoldable pub onZero : ℕ → List ℕ → List ℕ → List ℕ
+onZero k after before = cond (eqb k 0) after before
 
 abbrev pub outcomeNumber : Outcome → ℕ
 outcomeNumber Done = 0
 outcomeNumber (Nonce d) = 0
-outcomeNumber (Refused r) = refusalNumber r
+outcomeNumber (Refused r) = plantsRefusal r
 
 -- fresh plants
 abbrev pub newAnswer : ℕ → ℕ
-newAnswer n = outcomeNumber (made n .outcome)
+newAnswer n = outcomeNumber (newPlants n .outcome)
 
 abbrev pub newWords : ℕ → List ℕ → List ℕ
-newWords n w = onDone (newAnswer n) (wordsOf (made n .plants)) w
+newWords n w = onZero (newAnswer n) (stateWords (newPlants n .plants)) w
 
 -- a fault
 module _ (w : List ℕ) (tick fault id : ℕ) (draws : List ℕ) where
@@ -48,7 +48,7 @@ module _ (w : List ℕ) (tick fault id : ℕ) (draws : List ℕ) where
   applyAnswer = cond (leb fault 5) (orElse (shaped w) (outcomeNumber (nextOf .outcome))) 5
 
   abbrev pub applyWords : List ℕ
-  applyWords = onDone applyAnswer (wordsOf (nextOf .plants)) w
+  applyWords = onZero applyAnswer (stateWords (nextOf .plants)) w
 
   -- the nonce that a reboot drew
   abbrev pub drawn : Outcome → List ℕ → List ℕ
@@ -57,12 +57,12 @@ module _ (w : List ℕ) (tick fault id : ℕ) (draws : List ℕ) where
   drawn (Refused r) told = told
 
   abbrev pub nonceWords : List ℕ → List ℕ
-  nonceWords told = onDone applyAnswer (drawn (nextOf .outcome) told) told
+  nonceWords told = onZero applyAnswer (drawn (nextOf .outcome) told) told
 
 -- a verdict
 abbrev pub judgedNumber : Judged → ℕ
 judgedNumber (Is v) = 0
-judgedNumber (Unjudged r) = refusalNumber r
+judgedNumber (Unjudged r) = plantsRefusal r
 
 abbrev pub judgedWord : Judged → List ℕ → List ℕ
 judgedWord (Is v) told = verdictNumber v ∷ []
@@ -70,15 +70,15 @@ judgedWord (Unjudged r) told = told
 
 module _ (w : List ℕ) (sort id to : ℕ) where
   unfoldable pub verdictAnswer : ℕ
-  verdictAnswer = cond (leb sort 1) (orElse (shaped w) (judgedNumber (judged (plantsIn w) (originIn sort id) to))) 24
+  verdictAnswer = cond (leb sort 1) (orElse (shaped w) (judgedNumber (verdictGiven (plantsIn w) (originIn sort id) to))) 24
 
   abbrev pub verdictWords : List ℕ → List ℕ
-  verdictWords told = onDone verdictAnswer (judgedWord (judged (plantsIn w) (originIn sort id) to) told) told
+  verdictWords told = onZero verdictAnswer (judgedWord (verdictGiven (plantsIn w) (originIn sort id) to) told) told
 
 -- a core
 abbrev pub choiceNumber : Choice → ℕ
 choiceNumber (Made size used) = 0
-choiceNumber (Unchosen r) = refusalNumber r
+choiceNumber (Unchosen r) = plantsRefusal r
 
 abbrev pub coreTold : (size used : ℕ) → List ℕ → List ℕ
 coreTold size used core = size ∷ used ∷ core
@@ -91,11 +91,11 @@ module _ (w recovering picks : List ℕ) (full : ℕ) where
   coreAnswer = orElse (shaped w) (choiceNumber (chosenOf .choice))
 
   abbrev pub coreWords : List ℕ
-  coreWords = onDone coreAnswer (wordsOf (chosenOf .plants)) w
+  coreWords = onZero coreAnswer (stateWords (chosenOf .plants)) w
 
-  abbrev pub toldBy : Choice → List ℕ → List ℕ
-  toldBy (Made size used) told = coreTold size used (chosenOf .core)
-  toldBy (Unchosen r) told = told
+  abbrev pub coreToldBy : Choice → List ℕ → List ℕ
+  coreToldBy (Made size used) told = coreTold size used (chosenOf .core)
+  coreToldBy (Unchosen r) told = told
 
   abbrev pub coreAnswered : List ℕ → List ℕ
-  coreAnswered told = onDone coreAnswer (toldBy (chosenOf .choice) told) told
+  coreAnswered told = onZero coreAnswer (coreToldBy (chosenOf .choice) told) told

@@ -53,8 +53,8 @@ allBits [] = true
 allBits (w ∷ ws) = leb w 1 && allBits ws
 
 -- the words of the flags are 0 or 1
-abbrev pub flagsFit : List ℕ → Bool
-flagsFit w = allBits (take (2 * most) (drop upAt w))
+abbrev pub flagWordsFit : List ℕ → Bool
+flagWordsFit w = allBits (take (2 * most) (drop upAt w))
 
 -- the ticks
 abbrev pub ticksIn : List ℕ → List ℕ
@@ -73,13 +73,13 @@ plantsIn w =
       reboots = getD w rebootsAt 0;
     }
 
-abbrev pub wordsOf : Plants → List ℕ
-wordsOf s =
+abbrev pub stateWords : Plants → List ℕ
+stateWords s =
     s .n ∷ (bits (s .up) ++ (bits (s .partitioned) ++ (s .«stable_until» ++ (s .crashes ∷ s .restarts ∷ s .reboots ∷ []))))
 
 -- what the words themselves answer, 0 if nothing: n is not 3 to 15, or a flag is neither 0 nor 1
 unfoldable pub shaped : List ℕ → ℕ
-shaped w = cond (plantCount (getD w 0 0)) (cond (flagsFit w) 0 42) 40
+shaped w = cond (plantCount (getD w 0 0)) (cond (flagWordsFit w) 0 42) 40
 
 -- the fault of a number from 0 to 5, and the sender of a sort
 unfoldable pub faultIn : ℕ → ℕ → Fault

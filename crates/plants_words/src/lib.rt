@@ -17,7 +17,7 @@ ghost use mathlib.Core.List.{[], _∷_, _++_};
 ghost use Prim.Native.Nat.{_+_, _≤_};
 ghost use lib.ListN.{length, take, drop};
 ghost use Rattle.basis.specs.Basis.{most};
-ghost use Rattle.plants_words.specs.Layout.{stableAt, crashesAt, stateSize, coreSize, flagsIn, flagsFit, ticksIn, plantsIn, wordsOf, bits, shaped, faultIn, originIn};
+ghost use Rattle.plants_words.specs.Layout.{stableAt, crashesAt, stateSize, coreSize, flagsIn, flagWordsFit, ticksIn, plantsIn, stateWords, bits, shaped, faultIn, originIn};
 ghost use Rattle.plants_words.specs.Calls.{newAnswer, newWords, applyAnswer, applyWords, nonceWords, verdictAnswer, verdictWords, coreAnswer, coreWords, coreAnswered, coreTold};
 
 // Where the parts of a state begin, and how many words it has.
@@ -103,7 +103,7 @@ fn ticks_of(words: &[u64; WORDS]) -> [u64; MOST]
 // Whether the words of the flags are 0 or 1.
 fn flags_fit(words: &[u64; WORDS]) -> bool
     requires { ⌜ length (now words) ≡ stateSize ⌝ }
-    ensures { λ r. ⌜ r ≡ flagsFit (now (words .entry)) ⌝ }
+    ensures { λ r. ⌜ r ≡ flagWordsFit (now (words .entry)) ⌝ }
 {
     let mut i = UP;
     while i < STABLE {
@@ -163,7 +163,7 @@ fn put_ticks(words: &mut [u64; WORDS], ticks: &[u64; MOST])
 // The words of a state.
 fn store(plants: Plants, words: &mut [u64; WORDS])
     requires { ⌜ length (now words) ≡ stateSize ⌝ }
-    ensures { λ _. ⌜ now (words .exit) ≡ wordsOf plants ⌝ }
+    ensures { λ _. ⌜ now (words .exit) ≡ stateWords plants ⌝ }
 {
     let me = plants;
     words[0] = me.n as u64;

@@ -14,7 +14,7 @@ use lib.ListN.{length, take, drop, length-drop}
 use lib.Seq.{drop-drop, take-all}
 use Rattle.script_words.specs.Words.{until}
 use Rattle.script.specs.Lines.{lineSays}
-use Rattle.script.specs.Scripts.{eventsOf, judged, judgedLine, said}
+use Rattle.script.specs.Scripts.{eventsOf, linesJudged, judgedLine, said}
 use Rattle.script.specs.declared.line.Line.{Line}
 use Rattle.script.specs.declared.line.Line.the-variants.{Blank, Event, Faulty}
 use Rattle.script.specs.declared.line.Refusal.{Refusal}
@@ -70,35 +70,35 @@ left-step text place e h q = rw q (left-next text place h)
 
 -- ---- judging
 module _ (room n found : ℕ) where
-  pub judged-on : (l : Line) (ls : List Line) (next : ℕ) → judgedLine room found l ≡ Found next → judged room n found (l ∷ ls) ≡ judged room (n + 1) next ls
-  unfolding judged
+  pub judged-on : (l : Line) (ls : List Line) (next : ℕ) → judgedLine room found l ≡ Found next → linesJudged room n found (l ∷ ls) ≡ linesJudged room (n + 1) next ls
+  unfolding linesJudged
   judged-on Blank ls next e = let z : found ≡ next = cc in rw (add-one n, z)
   judged-on (Event t f) ls next e = by-room (ltb found room) e
     where
-      by-room : (b : Bool) → cond b (Found (found + 1)) (Stopped NoRoom) ≡ Found next → cond b (judged room (suc n) (suc found) ls) (Refused NoRoom n) ≡ judged room (n + 1) next ls
+      by-room : (b : Bool) → cond b (Found (found + 1)) (Stopped NoRoom) ≡ Found next → cond b (linesJudged room (suc n) (suc found) ls) (Refused NoRoom n) ≡ linesJudged room (n + 1) next ls
       by-room true q = let z : found + 1 ≡ next = cc in rw (← z, add-one n, add-one found)
       by-room false q = let z : _≡_ {A = ℕ} 0 1 = cc in absurd (omega arith)
   judged-on (Faulty r) ls next e = let z : _≡_ {A = ℕ} 0 1 = cc in absurd (omega arith)
 
-  pub judged-stop : (l : Line) (ls : List Line) (r : Refusal) → judgedLine room found l ≡ Stopped r → judged room n found (l ∷ ls) ≡ Refused r n
-  unfolding judged
+  pub judged-stop : (l : Line) (ls : List Line) (r : Refusal) → judgedLine room found l ≡ Stopped r → linesJudged room n found (l ∷ ls) ≡ Refused r n
+  unfolding linesJudged
   judged-stop Blank ls r e = let z : _≡_ {A = ℕ} 0 1 = cc in absurd (omega arith)
   judged-stop (Event t f) ls r e = by-room (ltb found room) e
     where
-      by-room : (b : Bool) → cond b (Found (found + 1)) (Stopped NoRoom) ≡ Stopped r → cond b (judged room (suc n) (suc found) ls) (Refused NoRoom n) ≡ Refused r n
+      by-room : (b : Bool) → cond b (Found (found + 1)) (Stopped NoRoom) ≡ Stopped r → cond b (linesJudged room (suc n) (suc found) ls) (Refused NoRoom n) ≡ Refused r n
       by-room true q = let z : _≡_ {A = ℕ} 0 1 = cc in absurd (omega arith)
       by-room false q = let z : NoRoom ≡ r = cc in rw z
   judged-stop (Faulty q) ls r e = let z : q ≡ r = cc in rw z
 
 -- a script that is accepted has as many events as the answer says, and room for them
-pub accepted : (room n found m : ℕ) (ls : List Line) → judged room n found ls ≡ Events m → (m ≡ found + length (eventsOf ls)) × (found ≤ room → m ≤ room)
-unfolding judged eventsOf
+pub accepted : (room n found m : ℕ) (ls : List Line) → linesJudged room n found ls ≡ Events m → (m ≡ found + length (eventsOf ls)) × (found ≤ room → m ≤ room)
+unfolding linesJudged eventsOf
 accepted room n found m [] e = let z : found ≡ m = cc in (omega arith, λ h. omega arith)
 accepted room n found m (Blank ∷ ls) e = accepted room (suc n) found m ls e
 accepted room n found m (Event t f ∷ ls) e = by-room (ltb found room) refl e (accepted room (suc n) (suc found) m ls)
   where
-    by-room : (b : Bool) → ltb found room ≡ b → cond b (judged room (suc n) (suc found) ls) (Refused NoRoom n) ≡ Events m
-        → (judged room (suc n) (suc found) ls ≡ Events m → (m ≡ suc found + length (eventsOf ls)) × (suc found ≤ room → m ≤ room))
+    by-room : (b : Bool) → ltb found room ≡ b → cond b (linesJudged room (suc n) (suc found) ls) (Refused NoRoom n) ≡ Events m
+        → (linesJudged room (suc n) (suc found) ls ≡ Events m → (m ≡ suc found + length (eventsOf ls)) × (suc found ≤ room → m ≤ room))
         → (m ≡ found + suc (length (eventsOf ls))) × (found ≤ room → m ≤ room)
     by-room true b q h = let i = h q in (omega arith, λ k. i .1 (ltb-true found room b))
     by-room false b q h = let z : _≡_ {A = ℕ} 0 1 = cc in absurd (omega arith)

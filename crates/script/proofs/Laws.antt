@@ -9,13 +9,13 @@ use lib.Dec.{ltb, eqb}
 use lib.ListN.{length, length-map}
 use Rattle.numeral.specs.Digits.{isDigit, allDigits, valueOf}
 use Rattle.numeral.specs.Reading.{unsigned, isNumber, inDigits, numberOf}
-use Rattle.order.specs.Order.{wordsOf, inserted, sorted, Rising, Permuted, ofTick}
+use Rattle.order.specs.Order.{eventWords, inserted, sorted, Rising, Permuted, ofTick}
 use Rattle.order.proofs.Laws.{sorted-rising, sorted-permuted, sorted-stable, length-sorted}
 use Rattle.script_words.specs.Words.{isSpace, notSpace, until, cutAt, joined, linesOf, stripFront, keptBefore, stripEnd, strip, begins}
 use Rattle.script_words.specs.Words as words
 use Rattle.script.specs.Faults.{same, namedBy}
 use Rattle.script.specs.Lines.{ofWords, lineSays}
-use Rattle.script.specs.Scripts.{longest, strayFrom, strayLine, eventsOf, judged, said, answerOf, sortedEvents, wordsAfter}
+use Rattle.script.specs.Scripts.{longest, strayFrom, strayLine, eventsOf, linesJudged, said, scriptAnswer, sortedEvents, scriptWords}
 use Rattle.script.specs.declared.line.Line.{Line}
 use Rattle.script.specs.declared.line.Line.the-variants.{Blank, Event, Faulty}
 use Rattle.script.specs.declared.line.Refusal.{Refusal}
@@ -48,10 +48,10 @@ past-tests false false a b j m h k e = absurd (k e)
 no-events : {r : Refusal} {n m : ℕ} → Refused r n ≡ Events m → ⊥
 no-events e = let z : _≡_ {A = ℕ} 0 1 = cc in omega arith
 
-pub events-counted : (text : List ℕ) (words m : ℕ) → answerOf text words ≡ Events m → (m ≡ length (sortedEvents text)) × (m ≤ words / 3)
-unfolding answerOf sortedEvents
+pub events-counted : (text : List ℕ) (words m : ℕ) → scriptAnswer text words ≡ Events m → (m ≡ length (sortedEvents text)) × (m ≤ words / 3)
+unfolding scriptAnswer sortedEvents
 events-counted text words m e =
-    let j = past-tests (ltb longest (length text)) (eqb (strayLine text) 0) (Refused TooLong 0) (Refused NotAscii (strayLine text)) (judged (words / 3) 1 0 (said text)) m no-events no-events e in
+    let j = past-tests (ltb longest (length text)) (eqb (strayLine text) 0) (Refused TooLong 0) (Refused NotAscii (strayLine text)) (linesJudged (words / 3) 1 0 (said text)) m no-events no-events e in
     let a = accepted (words / 3) 1 0 m (said text) j in
     (omega (arith, a .0, length-sorted (eventsOf (said text))), a .1 (omega arith))
 
@@ -89,23 +89,23 @@ the-line e = cc
 no-refusal : {A : Type 0} {r : Refusal} {m n : ℕ} → Events m ≡ Refused r n → A
 no-refusal e = let z : _≡_ {A = ℕ} 0 1 = cc in absurd (omega arith)
 
-judged-bound : (room n found : ℕ) (ls : List Line) (r : Refusal) (k : ℕ) → judged room n found ls ≡ Refused r k → k ≤ n + length ls
-unfolding judged
+judged-bound : (room n found : ℕ) (ls : List Line) (r : Refusal) (k : ℕ) → linesJudged room n found ls ≡ Refused r k → k ≤ n + length ls
+unfolding linesJudged
 judged-bound room n found [] r k e = no-refusal e
 judged-bound room n found (Blank ∷ ls) r k e = omega (arith, judged-bound room (suc n) found ls r k e)
 judged-bound room n found (Event t f ∷ ls) r k e = by-room (ltb found room) e (judged-bound room (suc n) (suc found) ls r k)
   where
-    by-room : (b : Bool) → cond b (judged room (suc n) (suc found) ls) (Refused NoRoom n) ≡ Refused r k
-        → (judged room (suc n) (suc found) ls ≡ Refused r k → k ≤ suc n + length ls) → k ≤ n + suc (length ls)
+    by-room : (b : Bool) → cond b (linesJudged room (suc n) (suc found) ls) (Refused NoRoom n) ≡ Refused r k
+        → (linesJudged room (suc n) (suc found) ls ≡ Refused r k → k ≤ suc n + length ls) → k ≤ n + suc (length ls)
     by-room true q h = omega (arith, h q)
     by-room false q h = omega (arith, the-line q)
 judged-bound room n found (Faulty q ∷ ls) r k e = omega (arith, the-line e)
 
-pub refusal-line : (text : List ℕ) (words : ℕ) (r : Refusal) (n : ℕ) → answerOf text words ≡ Refused r n → n ≤ suc (suc (length text))
-unfolding answerOf strayLine
+pub refusal-line : (text : List ℕ) (words : ℕ) (r : Refusal) (n : ℕ) → scriptAnswer text words ≡ Refused r n → n ≤ suc (suc (length text))
+unfolding scriptAnswer strayLine
 refusal-line text words r n e = by-test (ltb longest (length text)) (eqb (strayLine text) 0) e
   where
-    by-test : (p q : Bool) → cond p (Refused TooLong 0) (cond q (judged (words / 3) 1 0 (said text)) (Refused NotAscii (strayLine text))) ≡ Refused r n → n ≤ suc (suc (length text))
+    by-test : (p q : Bool) → cond p (Refused TooLong 0) (cond q (linesJudged (words / 3) 1 0 (said text)) (Refused NotAscii (strayLine text))) ≡ Refused r n → n ≤ suc (suc (length text))
     by-test true q f = omega (arith, the-line f)
     by-test false true f = omega (arith, judged-bound (words / 3) 1 0 (said text) r n f, length-map (linesOf text) lineSays, lines-bound text)
     by-test false false f = omega (arith, the-line f, stray-bound 1 text)
@@ -125,9 +125,9 @@ comma-id = 53 ∷ 32 ∷ 99 ∷ 114 ∷ 97 ∷ 115 ∷ 104 ∷ 32 ∷ 49 ∷ 44 
 
 -- the sample has two events, the crash of plant 1 at tick 5 first, and what was lent behind them stays; a comma is a bad tick or a bad id
 samples :
-    (answerOf sample 8 ≡ Events 2)
-    × (wordsAfter sample (9 ∷ 9 ∷ 9 ∷ 9 ∷ 9 ∷ 9 ∷ 9 ∷ 8 ∷ []) ≡ 5 ∷ 0 ∷ 1 ∷ 20 ∷ 5 ∷ 0 ∷ 9 ∷ 8 ∷ [])
-    × (answerOf comma-tick 6 ≡ Refused BadTick 1)
-    × (answerOf comma-id 6 ≡ Refused BadId 1)
-unfolding sample comma-tick comma-id wordsAfter sortedEvents sorted inserted wordsOf eventsOf answerOf strayLine strayFrom judged lineSays ofWords linesOf joined cutAt until strip stripEnd keptBefore stripFront isSpace notSpace begins words.wordsOf namedBy same numberOf unsigned inDigits isNumber allDigits isDigit valueOf
+    (scriptAnswer sample 8 ≡ Events 2)
+    × (scriptWords sample (9 ∷ 9 ∷ 9 ∷ 9 ∷ 9 ∷ 9 ∷ 9 ∷ 8 ∷ []) ≡ 5 ∷ 0 ∷ 1 ∷ 20 ∷ 5 ∷ 0 ∷ 9 ∷ 8 ∷ [])
+    × (scriptAnswer comma-tick 6 ≡ Refused BadTick 1)
+    × (scriptAnswer comma-id 6 ≡ Refused BadId 1)
+unfolding sample comma-tick comma-id scriptWords sortedEvents sorted inserted eventWords eventsOf scriptAnswer strayLine strayFrom linesJudged lineSays ofWords linesOf joined cutAt until strip stripEnd keptBefore stripFront isSpace notSpace begins words.lineWords namedBy same numberOf unsigned inDigits isNumber allDigits isDigit valueOf
 samples = (refl, refl, refl, refl)

@@ -12,10 +12,10 @@ use Rattle.numeral.specs.Reading.{numberOf, Says}
 use Rattle.numeral.specs.declared.Number.{Number}
 use Rattle.numeral.specs.declared.Number.the-variants.{Value, Bad}
 use Rattle.numeral.proofs.Laws.{sound}
-use Rattle.script_words.specs.Words.{isSpace, notSpace, until, cutAt, joined, linesOf, stripFront, keptBefore, stripEnd, strip, begins, wordsOf}
+use Rattle.script_words.specs.Words.{isSpace, notSpace, until, cutAt, joined, linesOf, stripFront, keptBefore, stripEnd, strip, begins, lineWords}
 use Rattle.script.specs.Faults.{needsId, same, crash, restart, reboot, partition, heal, healAll, namedBy}
 use Rattle.script.specs.Lines.{withNumber, withWords, withName, withTick, ofWords, lineSays}
-use Rattle.script.specs.Scripts.{eventsIn, eventsOf, said}
+use Rattle.script.specs.Scripts.{lineEvents, eventsOf, said}
 use Rattle.script.specs.declared.fault.Fault.{Fault}
 use Rattle.script.specs.declared.fault.Fault.the-variants.{Crash, Restart, Reboot, Partition, Heal, HealAll}
 use Rattle.script.specs.declared.fault.Named.{Named}
@@ -46,21 +46,21 @@ spread-lines (b ∷ bs) = line-more (eqb b 10) b bs (spread-lines bs)
 
 -- ---- the words of a line take no more than it
 record Fitting (l : List ℕ) : Type 0 where
-  fits : spread (wordsOf l) ≤ suc (length l)
-  spare : begins l ≡ false → spread (wordsOf l) ≤ length l
-  some : begins l ≡ true → 0 < spread (wordsOf l)
+  fits : spread (lineWords l) ≤ suc (length l)
+  spare : begins l ≡ false → spread (lineWords l) ≤ length l
+  some : begins l ≡ true → 0 < spread (lineWords l)
 
 never : {A : Type 0} → true ≡ false → A
 never e = let z : _≡_ {A = ℕ} 0 1 = cc in absurd (omega arith)
 
 fitting-word : (t : Bool) (b : ℕ) (bs : List ℕ) → begins bs ≡ t → Fitting bs
-    → (spread (cond t (joined b (wordsOf bs)) ((b ∷ []) ∷ wordsOf bs)) ≤ suc (suc (length bs))) × (0 < spread (cond t (joined b (wordsOf bs)) ((b ∷ []) ∷ wordsOf bs)))
+    → (spread (cond t (joined b (lineWords bs)) ((b ∷ []) ∷ lineWords bs)) ≤ suc (suc (length bs))) × (0 < spread (cond t (joined b (lineWords bs)) ((b ∷ []) ∷ lineWords bs)))
 unfolding spread
-fitting-word true b bs e f = let j = spread-joined b (wordsOf bs) (f .some e) in (omega (arith, f .fits), omega arith)
+fitting-word true b bs e f = let j = spread-joined b (lineWords bs) (f .some e) in (omega (arith, f .fits), omega arith)
 fitting-word false b bs e f = (omega (arith, f .spare e), omega arith)
 
 fitting-byte : (s : Bool) (b : ℕ) (bs : List ℕ) → isSpace b ≡ s → Fitting bs → Fitting (b ∷ bs)
-unfolding wordsOf begins notSpace
+unfolding lineWords begins notSpace
 fitting-byte true b bs e f =
     record { fits = rw e (omega (arith, f .fits)); spare = λ n. rw e (f .fits); some = λ n. never (sym (rw e at n)) }
 fitting-byte false b bs e f =
@@ -68,7 +68,7 @@ fitting-byte false b bs e f =
     record { fits = rw e (g .0); spare = λ n. never (rw e at n); some = λ n. rw e (g .1) }
 
 fitting : (l : List ℕ) → Fitting l
-unfolding wordsOf begins spread
+unfolding lineWords begins spread
 fitting [] = record { fits = omega arith; spare = λ n. omega arith; some = λ n. never (sym n) }
 fitting (b ∷ bs) = fitting-byte (isSpace b) b bs refl (fitting bs)
 
@@ -145,7 +145,7 @@ name-long w f =
 
 -- ---- so a line with an event has eight bytes
 abbrev Costs : Line → ℕ → Type 0
-Costs l n = 9 * length (eventsIn l) ≤ n
+Costs l n = 9 * length (lineEvents l) ≤ n
 
 with-number : (tick : ℕ) (fault : Fault) (w : List ℕ) (n : Number) (k : ℕ) → numberOf w ≡ n → (1 ≤ length w → 9 ≤ k) → Costs (withNumber tick fault n) k
 with-number tick fault w Bad k e h = omega arith
@@ -181,13 +181,13 @@ line-costs : (l : List ℕ) → Costs (lineSays l) (suc (length l))
 unfolding lineSays
 line-costs l =
     let m = strip (cutAt 35 l) in
-    omega (arith, words-cost (wordsOf m), fitting m .fits, shorter l)
+    omega (arith, words-cost (lineWords m), fitting m .fits, shorter l)
 
 lines-cost : (ls : List (List ℕ)) → 9 * length (eventsOf (map lineSays ls)) ≤ spread ls
 unfolding eventsOf spread
 lines-cost [] = omega arith
 lines-cost (l ∷ ls) =
-    omega (arith, length-append (eventsIn (lineSays l)) (eventsOf (map lineSays ls)), line-costs l, lines-cost ls)
+    omega (arith, length-append (lineEvents (lineSays l)) (eventsOf (map lineSays ls)), line-costs l, lines-cost ls)
 
 -- a text holds an event for nine bytes, where its end counts for one
 pub at-most : (text : List ℕ) → 9 * length (eventsOf (said text)) ≤ length text + 1

@@ -8,11 +8,11 @@ use native.Mathlib.Omega.{arith}
 use lib.Dec.{ltb, eqb}
 use lib.ListN.{length, take, drop, length-drop, take-append-drop}
 use Rattle.basis.specs.Basis.{laid}
-use Rattle.order.specs.Order.{wordsOf}
+use Rattle.order.specs.Order.{eventWords}
 use Rattle.order.specs.Order as order
 use Rattle.script_words.proofs.Walk.{until-in}
 use Rattle.script.specs.Lines.{lineSays}
-use Rattle.script.specs.Scripts.{longest, heldWords, eventsIn, eventsOf, judged, judgedLine, said}
+use Rattle.script.specs.Scripts.{longest, heldWords, lineEvents, eventsOf, linesJudged, judgedLine, said}
 use Rattle.script.specs.declared.fault.Fault.{Fault}
 use Rattle.script.specs.declared.line.Line.{Line}
 use Rattle.script.specs.declared.line.Line.the-variants.{Blank, Event, Faulty}
@@ -29,11 +29,11 @@ use Rattle.script.proofs.Most.{at-most}
 
 -- what a line answers, with the held words as they were and as they are then
 abbrev pub Read : ℕ → ℕ → Line → List ℕ → List ℕ → Judged → Type 0
-Read room found l held held′ r = (r ≡ judgedLine room found l) × ((next : ℕ) → r ≡ Found next → held′ ≡ laid held (3 * found) (wordsOf (eventsIn l)))
+Read room found l held held′ r = (r ≡ judgedLine room found l) × ((next : ℕ) → r ≡ Found next → held′ ≡ laid held (3 * found) (eventWords (lineEvents l)))
 
 module _ (room found : ℕ) (held : List ℕ) where
   pub read-blank : (l : Line) → l ≡ Blank → Read room found l held held (Found found)
-  unfolding wordsOf
+  unfolding eventWords
   read-blank l e =
       let z : 3 * found + 0 ≡ 3 * found = omega arith in
       rw e (refl, λ next q. rw (z, take-append-drop (3 * found) held))
@@ -42,7 +42,7 @@ module _ (room found : ℕ) (held : List ℕ) where
   read-faulty l r e = (rw e, λ next q. let z : _≡_ {A = ℕ} 0 1 = cc in absurd (omega arith))
 
   module _ (tick : ℕ) (fault : Fault) where
-    pub read-event : (held′ : List ℕ) (n : ℕ) → found < room → n ≡ found + 1 → held′ ≡ laid held (3 * found) (wordsOf (eventsIn (Event tick fault)))
+    pub read-event : (held′ : List ℕ) (n : ℕ) → found < room → n ≡ found + 1 → held′ ≡ laid held (3 * found) (eventWords (lineEvents (Event tick fault)))
         → Read room found (Event tick fault) held held′ (Found n)
     read-event held′ n h m w = rw (lt-ltb found room h, m) (refl, λ next q. w)
 
@@ -52,11 +52,11 @@ module _ (room found : ℕ) (held : List ℕ) where
     pub read-as : (l : Line) (held′ : List ℕ) (r : Judged) → l ≡ Event tick fault → Read room found (Event tick fault) held held′ r → Read room found l held held′ r
     read-as l held′ r e h = rw e h
 
-    pub fits-as : (l : Line) → l ≡ Event tick fault → 3 * (found + length (eventsIn l)) ≤ length held → 3 * (found + 1) ≤ length held
+    pub fits-as : (l : Line) → l ≡ Event tick fault → 3 * (found + length (lineEvents l)) ≤ length held → 3 * (found + 1) ≤ length held
     fits-as l e h = rw e at h
 
 -- a line that does not stop adds its events
-more : (room found next : ℕ) (l : Line) → judgedLine room found l ≡ Found next → next ≡ found + length (eventsIn l)
+more : (room found next : ℕ) (l : Line) → judgedLine room found l ≡ Found next → next ≡ found + length (lineEvents l)
 more room found next Blank e = let z : found ≡ next = cc in omega arith
 more room found next (Event tick fault) e = by-room (ltb found room) e
   where
@@ -74,19 +74,19 @@ pub record Reading (room : ℕ) (text start held : List ℕ) (line found place :
   pub within : place ≤ length text + 1
   pub below : line ≤ place + 1
   pub some : found ≤ length (eventsOf (said text))
-  pub answer : judged room 1 0 (said text) ≡ judged room line found (left text place)
+  pub answer : linesJudged room 1 0 (said text) ≡ linesJudged room line found (left text place)
   pub others : drop found (eventsOf (said text)) ≡ eventsOf (left text place)
   pub front : held ≡ written (eventsOf (said text)) start found
 
 pub starts : (room : ℕ) (text start : List ℕ) → length text ≤ longest → heldWords ≤ length start → Reading room text start start 1 0 0
-unfolding wordsOf
+unfolding eventWords
 starts room text start short long = record {
   short = short;
   long = long;
   within = omega arith;
   below = omega arith;
   some = omega arith;
-  answer = ap (judged room 1 0) (left-all text);
+  answer = ap (linesJudged room 1 0) (left-all text);
   others = ap eventsOf (left-all text);
   front = refl;
 }
@@ -122,43 +122,43 @@ module _ {room : ℕ} {text start held : List ℕ} {line found place : ℕ} (r :
     pub nearer : length text + 1 - (e + 1) < length text + 1 - place
     nearer = omega (arith, ends-after, ends-in)
 
-    onward : drop found (eventsOf (said text)) ≡ eventsIn here ++ eventsOf (left text (e + 1))
+    onward : drop found (eventsOf (said text)) ≡ lineEvents here ++ eventsOf (left text (e + 1))
     unfolding eventsOf
     onward = r .others ∙ ap eventsOf (left-step text place e in-text q)
 
-    enough : found + length (eventsIn here) ≤ length (eventsOf (said text))
-    enough = next-within (eventsOf (said text)) start room-for (eventsIn here) (eventsOf (left text (e + 1))) found onward (r .some)
+    enough : found + length (lineEvents here) ≤ length (eventsOf (said text))
+    enough = next-within (eventsOf (said text)) start room-for (lineEvents here) (eventsOf (left text (e + 1))) found onward (r .some)
 
-    pub roomy : 3 * (found + length (eventsIn here)) ≤ length held
+    pub roomy : 3 * (found + length (lineEvents here)) ≤ length held
     roomy = omega (arith, as-long, room-for, enough)
 
-    pub stops : (why : Refusal) → judgedLine room found here ≡ Stopped why → Refused why line ≡ judged room 1 0 (said text)
+    pub stops : (why : Refusal) → judgedLine room found here ≡ Stopped why → Refused why line ≡ linesJudged room 1 0 (said text)
     stops why j =
-        sym (r .answer ∙ (ap (judged room line found) (left-step text place e in-text q) ∙ judged-stop room line found here (left text (e + 1)) why j))
+        sym (r .answer ∙ (ap (linesJudged room line found) (left-step text place e in-text q) ∙ judged-stop room line found here (left text (e + 1)) why j))
 
-    pub goes-on : (held′ : List ℕ) (next : ℕ) → judgedLine room found here ≡ Found next → held′ ≡ laid held (3 * found) (wordsOf (eventsIn here))
+    pub goes-on : (held′ : List ℕ) (next : ℕ) → judgedLine room found here ≡ Found next → held′ ≡ laid held (3 * found) (eventWords (lineEvents here))
         → Reading room text start held′ (line + 1) next (e + 1)
     goes-on held′ next j w =
         let all = eventsOf (said text) in
         let behind = eventsOf (left text (e + 1)) in
-        let n : next ≡ found + length (eventsIn here) = more room found next here j in
+        let n : next ≡ found + length (lineEvents here) = more room found next here j in
         record {
           short = r .short;
           long = r .long;
           within = omega (arith, ends-in);
           below = omega (arith, r .below, ends-after);
           some = rw n enough;
-          answer = r .answer ∙ (ap (judged room line found) (left-step text place e in-text q) ∙ judged-on room line found here (left text (e + 1)) next j);
-          others = rw n (next-left all start room-for (eventsIn here) behind found onward (r .some));
-          front = w ∙ rw n (next-written all start room-for (eventsIn here) behind found onward (r .some) held (r .front));
+          answer = r .answer ∙ (ap (linesJudged room line found) (left-step text place e in-text q) ∙ judged-on room line found here (left text (e + 1)) next j);
+          others = rw n (next-left all start room-for (lineEvents here) behind found onward (r .some));
+          front = w ∙ rw n (next-written all start room-for (lineEvents here) behind found onward (r .some) held (r .front));
         }
 
   -- behind the last line
-  pub answers : length text < place → Events found ≡ judged room 1 0 (said text)
-  unfolding judged
+  pub answers : length text < place → Events found ≡ linesJudged room 1 0 (said text)
+  unfolding linesJudged
   answers h = sym (rw (left-none text place h) at (r .answer))
 
-  pub all-written : length text < place → held ≡ laid start 0 (wordsOf (eventsOf (said text)))
+  pub all-written : length text < place → held ≡ laid start 0 (eventWords (eventsOf (said text)))
   unfolding eventsOf
   all-written h =
       let all = eventsOf (said text) in

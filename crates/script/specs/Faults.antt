@@ -70,15 +70,6 @@ heal = bytes "heal"
 abbrev pub healAll : List ℕ
 healAll = bytes "heal-all"
 
--- the name of a fault
-abbrev pub faultName : Fault → List ℕ
-faultName (Crash i) = crash
-faultName (Restart i) = restart
-faultName (Reboot i) = reboot
-faultName (Partition i) = partition
-faultName (Heal i) = heal
-faultName HealAll = healAll
-
 -- the fault that a word names, of the plant 0, or that it names none
 unfoldable pub namedBy : List ℕ → Named
 namedBy w =

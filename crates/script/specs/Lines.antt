@@ -6,7 +6,7 @@ use Prim.Native.Nat.{ℕ}
 use Rattle.numeral.specs.Reading.{numberOf}
 use Rattle.numeral.specs.declared.Number.{Number}
 use Rattle.numeral.specs.declared.Number.the-variants.{Value, Bad}
-use Rattle.script_words.specs.Words.{cutAt, strip, wordsOf}
+use Rattle.script_words.specs.Words.{cutAt, strip, lineWords}
 use Rattle.script.specs.Faults.{namedBy, needsId, withId}
 use Rattle.script.specs.declared.fault.Fault.{Fault}
 use Rattle.script.specs.declared.fault.Named.{Named}
@@ -45,7 +45,7 @@ ofWords (tick ∷ name ∷ ws) = withTick (numberOf tick) name ws
 
 -- what a line says. Its comment begins at byte 35, `#`
 unfoldable pub lineSays : List ℕ → Line
-lineSays l = ofWords (wordsOf (strip (cutAt 35 l)))
+lineSays l = ofWords (lineWords (strip (cutAt 35 l)))
 
 -- a word that may be missing, which is then empty: no word of a line is
 abbrev pub present : List ℕ → List (List ℕ)

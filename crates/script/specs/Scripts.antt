@@ -19,15 +19,15 @@ use Rattle.script.specs.declared.Script.{Script}
 use Rattle.script.specs.declared.Script.the-variants.{Events, Refused}
 
 -- the refusals' numbers
-abbrev pub refusalNumber : Refusal → ℕ
-refusalNumber TooLong = 1
-refusalNumber NotAscii = 2
-refusalNumber OneWord = 3
-refusalNumber BadTick = 4
-refusalNumber UnknownFault = 5
-refusalNumber MissingId = 6
-refusalNumber BadId = 7
-refusalNumber NoRoom = 8
+abbrev pub scriptRefusal : Refusal → ℕ
+scriptRefusal TooLong = 1
+scriptRefusal NotAscii = 2
+scriptRefusal OneWord = 3
+scriptRefusal BadTick = 4
+scriptRefusal UnknownFault = 5
+scriptRefusal MissingId = 6
+scriptRefusal BadId = 7
+scriptRefusal NoRoom = 8
 
 -- the most bytes that a text may have
 abbrev pub longest : ℕ
@@ -46,23 +46,23 @@ unfoldable pub strayLine : List ℕ → ℕ
 strayLine text = strayFrom 1 text
 
 -- the event that a line is, as tick, fault and id: one or none
-abbrev pub eventsIn : Line → List order.Event
-eventsIn Blank = []
-eventsIn (Event tick fault) = record { tick = tick; fault = faultNumber fault; id = faultId fault } ∷ []
-eventsIn (Faulty r) = []
+abbrev pub lineEvents : Line → List order.Event
+lineEvents Blank = []
+lineEvents (Event tick fault) = record { tick = tick; fault = faultNumber fault; id = faultId fault } ∷ []
+lineEvents (Faulty r) = []
 
 -- the events among what lines say, in file order
 unfoldable pub eventsOf : List Line → List order.Event
 eventsOf [] = []
-eventsOf (l ∷ ls) = eventsIn l ++ eventsOf ls
+eventsOf (l ∷ ls) = lineEvents l ++ eventsOf ls
 
 -- the answer of lines that begin at line n, with `found` events before them and room for `room` in all: the first faulty line's refusal, where
 -- an event more than the room makes its line faulty too
-unfoldable pub judged : ℕ → ℕ → ℕ → List Line → Script
-judged room n found [] = Events found
-judged room n found (Blank ∷ ls) = judged room (suc n) found ls
-judged room n found (Event tick fault ∷ ls) = cond (ltb found room) (judged room (suc n) (suc found) ls) (Refused NoRoom n)
-judged room n found (Faulty r ∷ ls) = Refused r n
+unfoldable pub linesJudged : ℕ → ℕ → ℕ → List Line → Script
+linesJudged room n found [] = Events found
+linesJudged room n found (Blank ∷ ls) = linesJudged room (suc n) found ls
+linesJudged room n found (Event tick fault ∷ ls) = cond (ltb found room) (linesJudged room (suc n) (suc found) ls) (Refused NoRoom n)
+linesJudged room n found (Faulty r ∷ ls) = Refused r n
 
 -- the same of one line: how many events were found up to its end, or why it stops
 abbrev pub judgedLine : ℕ → ℕ → Line → Judged
@@ -75,10 +75,10 @@ abbrev pub said : List ℕ → List Line
 said text = map lineSays (linesOf text)
 
 -- the answer, with `words` words lent: room counts in whole events
-unfoldable pub answerOf : List ℕ → ℕ → Script
-answerOf text words =
+unfoldable pub scriptAnswer : List ℕ → ℕ → Script
+scriptAnswer text words =
     cond (ltb longest (length text)) (Refused TooLong 0)
-    (cond (eqb (strayLine text) 0) (judged (words / 3) 1 0 (said text)) (Refused NotAscii (strayLine text)))
+    (cond (eqb (strayLine text) 0) (linesJudged (words / 3) 1 0 (said text)) (Refused NotAscii (strayLine text)))
 
 -- the script's events by tick, equal ticks in file order
 unfoldable pub sortedEvents : List ℕ → List order.Event
@@ -86,8 +86,8 @@ sortedEvents text = order.sorted (eventsOf (said text))
 
 -- the lent words after the answer: the events, then what was there; on a refusal none has changed
 abbrev pub wordsGiven : Script → List ℕ → List ℕ → List ℕ
-wordsGiven (Events n) text words = order.wordsOf (sortedEvents text) ++ drop (3 * n) words
+wordsGiven (Events n) text words = order.eventWords (sortedEvents text) ++ drop (3 * n) words
 wordsGiven (Refused r n) text words = words
 
-unfoldable pub wordsAfter : List ℕ → List ℕ → List ℕ
-wordsAfter text words = wordsGiven (answerOf text (length words)) text words
+unfoldable pub scriptWords : List ℕ → List ℕ → List ℕ
+scriptWords text words = wordsGiven (scriptAnswer text (length words)) text words

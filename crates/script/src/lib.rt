@@ -10,9 +10,9 @@ ghost use Prim.Native.Nat.{ℕ, _+_, _*_, _/_, _≤_};
 ghost use lib.Dec.{eqb};
 ghost use lib.ListN.{length};
 ghost use Rattle.basis.specs.Basis.{laid};
-ghost use Rattle.order.specs.Order.{wordsOf};
+ghost use Rattle.order.specs.Order.{eventWords};
 ghost use Rattle.script.specs.Lines.{lineSays};
-ghost use Rattle.script.specs.Scripts.{refusalNumber, longest, heldWords, strayLine, judged, judgedLine, said, eventsIn, eventsOf, answerOf, wordsGiven, wordsAfter};
+ghost use Rattle.script.specs.Scripts.{scriptRefusal, longest, heldWords, strayLine, linesJudged, judgedLine, said, lineEvents, eventsOf, scriptAnswer, wordsGiven, scriptWords};
 
 // What a script says: how many events it has, or why it is refused and at which line.
 pub enum Script {
@@ -34,7 +34,7 @@ const HELD: usize = 3 * ((LONGEST + 1) / 9);
 
 // A refusal's number.
 pub fn refusal_number(refusal: Refusal) -> u64
-    ensures { λ r. ⌜ r ≡ refusalNumber refusal ⌝ }
+    ensures { λ r. ⌜ r ≡ scriptRefusal refusal ⌝ }
 {
     match refusal {
         Refusal::TooLong => 1,
@@ -84,9 +84,9 @@ fn stray_line(text: &[u8]) -> usize
 // One line, with `found` events before it and room for `room` in all. Its event, if it has one, is
 // written behind them.
 fn read_line(line: &[u8], held: &mut [u64], found: usize, room: usize) -> Judged
-    requires { ⌜ 3 * (found + length (eventsIn (lineSays (now line)))) ≤ length (now held) ⌝ }
+    requires { ⌜ 3 * (found + length (lineEvents (lineSays (now line)))) ≤ length (now held) ⌝ }
     ensures answer { λ r. ⌜ r ≡ judgedLine room found (lineSays (now (line .entry))) ⌝ }
-    ensures words { λ r. ⌜ ((next : ℕ) → r ≡ Judged.Found next → now (held .exit) ≡ laid (now (held .entry)) (3 * found) (wordsOf (eventsIn (lineSays (now (line .entry)))))) ⌝ }
+    ensures words { λ r. ⌜ ((next : ℕ) → r ≡ Judged.Found next → now (held .exit) ≡ laid (now (held .entry)) (3 * found) (eventWords (lineEvents (lineSays (now (line .entry)))))) ⌝ }
 {
     match line::parse_line(line) {
         Line::Blank => Judged::Found(found),
@@ -99,7 +99,7 @@ fn read_line(line: &[u8], held: &mut [u64], found: usize, room: usize) -> Judged
 fn take_event(held: &mut [u64], found: usize, room: usize, tick: u64, fault: Fault) -> Judged
     requires { ⌜ 3 * (found + 1) ≤ length (now held) ⌝ }
     ensures answer { λ r. ⌜ r ≡ judgedLine room found (Line.Event tick fault) ⌝ }
-    ensures words { λ r. ⌜ ((next : ℕ) → r ≡ Judged.Found next → now (held .exit) ≡ laid (now (held .entry)) (3 * found) (wordsOf (eventsIn (Line.Event tick fault)))) ⌝ }
+    ensures words { λ r. ⌜ ((next : ℕ) → r ≡ Judged.Found next → now (held .exit) ≡ laid (now (held .entry)) (3 * found) (eventWords (lineEvents (Line.Event tick fault)))) ⌝ }
 {
     if found < room {
         Judged::Found(put_event(held, found, tick, fault))
@@ -112,7 +112,7 @@ fn take_event(held: &mut [u64], found: usize, room: usize, tick: u64, fault: Fau
 fn put_event(events: &mut [u64], count: usize, tick: u64, fault: Fault) -> usize
     requires { ⌜ 3 * (count + 1) ≤ length (now events) ⌝ }
     ensures count { λ r. ⌜ r ≡ count + 1 ⌝ }
-    ensures words { λ r. ⌜ now (events .exit) ≡ laid (now (events .entry)) (3 * count) (wordsOf (eventsIn (Line.Event tick fault))) ⌝ }
+    ensures words { λ r. ⌜ now (events .exit) ≡ laid (now (events .entry)) (3 * count) (eventWords (lineEvents (Line.Event tick fault))) ⌝ }
 {
     let place = 3 * count;
     events[place] = tick;
@@ -125,8 +125,8 @@ fn put_event(events: &mut [u64], count: usize, tick: u64, fault: Fault) -> usize
 // words, in file order.
 fn read_lines(text: &[u8], held: &mut [u64], room: usize) -> Script
     requires { ⌜ (length (now text) ≤ longest) × (heldWords ≤ length (now held)) ⌝ }
-    ensures answer { λ r. ⌜ r ≡ judged room 1 0 (said (now (text .entry))) ⌝ }
-    ensures words { λ r. ⌜ ((n : ℕ) → r ≡ Script.Events n → now (held .exit) ≡ laid (now (held .entry)) 0 (wordsOf (eventsOf (said (now (text .entry)))))) ⌝ }
+    ensures answer { λ r. ⌜ r ≡ linesJudged room 1 0 (said (now (text .entry))) ⌝ }
+    ensures words { λ r. ⌜ ((n : ℕ) → r ≡ Script.Events n → now (held .exit) ≡ laid (now (held .entry)) 0 (eventWords (eventsOf (said (now (text .entry)))))) ⌝ }
 {
     let mut found: usize = 0;
     let mut line: usize = 1;
@@ -147,7 +147,7 @@ fn read_lines(text: &[u8], held: &mut [u64], room: usize) -> Script
 // until the last line was read, for a refusal leaves the lent words as they came.
 fn read_script(text: &[u8], events: &mut [u64], held: &mut [u64]) -> Script
     requires { ⌜ (length (now text) ≤ longest) × (heldWords ≤ length (now held)) ⌝ }
-    ensures answer { λ r. ⌜ r ≡ judged (length (now (events .entry)) / 3) 1 0 (said (now (text .entry))) ⌝ }
+    ensures answer { λ r. ⌜ r ≡ linesJudged (length (now (events .entry)) / 3) 1 0 (said (now (text .entry))) ⌝ }
     ensures words { λ r. ⌜ now (events .exit) ≡ wordsGiven r (now (text .entry)) (now (events .entry)) ⌝ }
 {
     let answer = read_lines(text, held, events.len() / 3);
@@ -164,8 +164,8 @@ fn read_script(text: &[u8], events: &mut [u64], held: &mut [u64]) -> Script
 // for each event, tick, fault and id, sorted by tick. After a look for bytes over 127 it reads each
 // line once and then sorts, n events in n log n steps at most, whatever their order (crate order).
 pub fn parse_script(text: &[u8], events: &mut [u64]) -> Script
-    ensures answer { λ r. ⌜ r ≡ answerOf (now (text .entry)) (length (now (events .entry))) ⌝ }
-    ensures words { λ r. ⌜ now (events .exit) ≡ wordsAfter (now (text .entry)) (now (events .entry)) ⌝ }
+    ensures answer { λ r. ⌜ r ≡ scriptAnswer (now (text .entry)) (length (now (events .entry))) ⌝ }
+    ensures words { λ r. ⌜ now (events .exit) ≡ scriptWords (now (text .entry)) (now (events .entry)) ⌝ }
 {
     if LONGEST < text.len() {
         return Script::Refused(Refusal::TooLong, 0);

@@ -4,7 +4,7 @@ use crate::fault::Fault;
 use crate::fault::Named;
 use numeral::Number;
 ghost use mathlib.Core.Path.{_≡_};
-ghost use Rattle.script_words.specs.Words.{wordsOf};
+ghost use Rattle.script_words.specs.Words.{lineWords};
 ghost use Rattle.script.specs.Lines.{lineSays, ofWords, withFault, present};
 
 // Why a script is refused, in the order in which it is tested.
@@ -44,7 +44,7 @@ pub fn parse_line(line: &[u8]) -> Line
 
 // What the words of a line say.
 fn parse_words(line: &[u8]) -> Line
-    ensures { λ r. ⌜ r ≡ ofWords (wordsOf (now (line .entry))) ⌝ }
+    ensures { λ r. ⌜ r ≡ ofWords (lineWords (now (line .entry))) ⌝ }
 {
     let found = script_words::first_words(line);
     let start = found.tick.start;

@@ -6,7 +6,7 @@ use native.Mathlib.Numerals.{add-one}
 use native.Mathlib.Omega.{arith}
 use lib.ListN.{length, take, getD}
 use lib.Seq.{getD-take, length-take-le, take-all}
-use Rattle.order.specs.Order.{Event, wordsOf, eventsIn}
+use Rattle.order.specs.Order.{Event, eventWords, eventsIn}
 use Rattle.order.specs.Merge.{Whole}
 use Rattle.order.proofs.Halves.{whole-of}
 use Rattle.order.proofs.Laws.{length-wordsOf}
@@ -43,7 +43,7 @@ module _ (words : List ℕ) (count : ℕ) (fits : 3 * count ≤ length words) wh
   unfolding Whole
   length-events =
       let l : length (take (3 * count) words) ≡ 3 * count = length-take-le (3 * count) words fits in
-      let w : wordsOf events ≡ take (3 * count) words = whole-of count (take (3 * count) words) l in
+      let w : eventWords events ≡ take (3 * count) words = whole-of count (take (3 * count) words) l in
       omega (arith, length-wordsOf events, ap length w)
 
   pub text-more : (i : ℕ) → i < count → eventsText (take (i + 1) events) ≡ eventsText (take i events) ++ eventText (eventAt words i)

@@ -10,7 +10,7 @@ use Rattle.numeral.specs.Bytes.{bytes}
 use Rattle.numeral.specs.Writing.{decimal}
 use Rattle.order.specs.Order.{Event}
 use Rattle.script.specs.Faults.{crash, restart, reboot, partition, heal, healAll}
-use Rattle.script.specs.Scripts.{refusalNumber, answerOf, sortedEvents}
+use Rattle.script.specs.Scripts.{scriptRefusal, scriptAnswer, sortedEvents}
 use Rattle.script.specs.declared.Script.{Script}
 use Rattle.script.specs.declared.Script.the-variants.{Events, Refused}
 use Rattle.script_report.specs.declared.Reported.{Reported}
@@ -65,7 +65,7 @@ listed n es = numberLine eventsKey n ++ eventsText es
 -- what is written for an answer
 abbrev pub answerText : Script → List Event → List ℕ
 answerText (Events n) es = listed n es
-answerText (Refused r n) es = numberLine refusalKey (refusalNumber r) ++ numberLine lineKey n
+answerText (Refused r n) es = numberLine refusalKey (scriptRefusal r) ++ numberLine lineKey n
 
 -- the most events that the program takes, and the words lent to the reader for them
 abbrev pub mostReported : ℕ
@@ -76,7 +76,7 @@ eventRoom = 3 * mostReported
 
 -- what is written for a text
 unfoldable pub reportText : List ℕ → List ℕ
-reportText text = answerText (answerOf text eventRoom) (sortedEvents text)
+reportText text = answerText (scriptAnswer text eventRoom) (sortedEvents text)
 
 -- the bytes that are always enough: 28 for a key and a number on the first line, and 66 for each event
 abbrev pub enough : ℕ

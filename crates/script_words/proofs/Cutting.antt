@@ -9,7 +9,7 @@ use lib.ListN.{length, take, drop}
 use borrow.Author.Tests.{eqb-true, eqb-false, eq-eqb, ne-eqb}
 use lib.Dec.{eqb}
 use lib.Seq.{drop-drop}
-use Rattle.script_words.specs.Words.{isSpace, notSpace, until, joined, stripFront, keptBefore, stripEnd, strip, begins, wordsOf, startFrom, wordFrom, firstWords, linesOf}
+use Rattle.script_words.specs.Words.{isSpace, notSpace, until, joined, stripFront, keptBefore, stripEnd, strip, begins, lineWords, startFrom, wordFrom, firstWords, linesOf}
 use Rattle.script_words.specs.declared.FirstWords.{FirstWords}
 use Rattle.script_words.proofs.Walk.{until-in}
 use Rattle.script_words.specs.declared.Bounds.{Bounds}
@@ -28,12 +28,12 @@ eqb-swap a b = alike (eqb a b) refl
     alike false e = sym (ne-eqb b a (λ q. eqb-false a b e (sym q)))
 
 -- ---- white space in front plays no part
-skip-one : (s : Bool) (b : ℕ) (bs : List ℕ) (n : ℕ) → isSpace b ≡ s → wordsOf (drop n bs) ≡ wordsOf bs → wordsOf (drop (cond (not s) 0 (suc n)) (b ∷ bs)) ≡ wordsOf (b ∷ bs)
-unfolding wordsOf
+skip-one : (s : Bool) (b : ℕ) (bs : List ℕ) (n : ℕ) → isSpace b ≡ s → lineWords (drop n bs) ≡ lineWords bs → lineWords (drop (cond (not s) 0 (suc n)) (b ∷ bs)) ≡ lineWords (b ∷ bs)
+unfolding lineWords
 skip-one true b bs n e h = rw e h
 skip-one false b bs n e h = refl
 
-skip-words : (l : List ℕ) → wordsOf (drop (until notSpace l) l) ≡ wordsOf l
+skip-words : (l : List ℕ) → lineWords (drop (until notSpace l) l) ≡ lineWords l
 unfolding until notSpace
 skip-words [] = refl
 skip-words (b ∷ bs) = skip-one (isSpace b) b bs (until notSpace bs) refl (skip-words bs)
@@ -60,20 +60,20 @@ no-run (b ∷ bs) h = stopped (isSpace b) h
     stopped true e = refl
     stopped false e = let z : _≡_ {A = ℕ} 0 1 = cc in absurd (omega arith)
 
-one-more : (t : Bool) (b : ℕ) (bs : List ℕ) → begins bs ≡ t → (begins bs ≡ true → wordsOf bs ≡ take (until isSpace bs) bs ∷ wordsOf (drop (until isSpace bs) bs))
-    → cond t (joined b (wordsOf bs)) ((b ∷ []) ∷ wordsOf bs) ≡ (b ∷ take (until isSpace bs) bs) ∷ wordsOf (drop (until isSpace bs) bs)
+one-more : (t : Bool) (b : ℕ) (bs : List ℕ) → begins bs ≡ t → (begins bs ≡ true → lineWords bs ≡ take (until isSpace bs) bs ∷ lineWords (drop (until isSpace bs) bs))
+    → cond t (joined b (lineWords bs)) ((b ∷ []) ∷ lineWords bs) ≡ (b ∷ take (until isSpace bs) bs) ∷ lineWords (drop (until isSpace bs) bs)
 unfolding joined
 one-more true b bs e h = rw (h e)
 one-more false b bs e h = rw (no-run bs e)
 
 by-space : (s : Bool) (b : ℕ) (bs : List ℕ) → isSpace b ≡ s → not s ≡ true
-    → (begins bs ≡ true → wordsOf bs ≡ take (until isSpace bs) bs ∷ wordsOf (drop (until isSpace bs) bs))
-    → wordsOf (b ∷ bs) ≡ take (until isSpace (b ∷ bs)) (b ∷ bs) ∷ wordsOf (drop (until isSpace (b ∷ bs)) (b ∷ bs))
-unfolding wordsOf until
+    → (begins bs ≡ true → lineWords bs ≡ take (until isSpace bs) bs ∷ lineWords (drop (until isSpace bs) bs))
+    → lineWords (b ∷ bs) ≡ take (until isSpace (b ∷ bs)) (b ∷ bs) ∷ lineWords (drop (until isSpace (b ∷ bs)) (b ∷ bs))
+unfolding lineWords until
 by-space true b bs e f h = let z : _≡_ {A = ℕ} 0 1 = cc in absurd (omega arith)
 by-space false b bs e f h = rw e (one-more (begins bs) b bs refl h)
 
-word-first : (l : List ℕ) → begins l ≡ true → wordsOf l ≡ take (until isSpace l) l ∷ wordsOf (drop (until isSpace l) l)
+word-first : (l : List ℕ) → begins l ≡ true → lineWords l ≡ take (until isSpace l) l ∷ lineWords (drop (until isSpace l) l)
 unfolding begins notSpace
 word-first [] h = let z : _≡_ {A = ℕ} 0 1 = cc in absurd (omega arith)
 word-first (b ∷ bs) h = by-space (isSpace b) b bs refl h (word-first bs)
@@ -83,13 +83,13 @@ first-led : (s : Bool) (b : ℕ) (bs : List ℕ) (ws : List (List ℕ)) (k : ℕ
 first-led true b bs ws k e = let z : _≡_ {A = ℕ} 0 1 = cc in absurd (omega arith)
 first-led false b bs ws k e = refl
 
-word-here : (t : Bool) (l : List ℕ) → begins l ≡ t → (begins l ≡ false → l ≡ []) → wordsOf l ≡ led (take (until isSpace l) l) (wordsOf (drop (until isSpace l) l))
-unfolding wordsOf until begins notSpace
+word-here : (t : Bool) (l : List ℕ) → begins l ≡ t → (begins l ≡ false → l ≡ []) → lineWords l ≡ led (take (until isSpace l) l) (lineWords (drop (until isSpace l) l))
+unfolding lineWords until begins notSpace
 word-here true [] e h = refl
 word-here true (b ∷ bs) e h = word-first (b ∷ bs) e ∙ first-led (isSpace b) b bs _ (until isSpace bs) e
 word-here false l e h = rw (h e)
 
-pub word-at : (l : List ℕ) (place : ℕ) → wordsOf (drop place l) ≡ led (take (wordFrom l place .end - wordFrom l place .start) (drop (wordFrom l place .start) l)) (wordsOf (drop (wordFrom l place .end) l))
+pub word-at : (l : List ℕ) (place : ℕ) → lineWords (drop place l) ≡ led (take (wordFrom l place .end - wordFrom l place .start) (drop (wordFrom l place .start) l)) (lineWords (drop (wordFrom l place .end) l))
 unfolding wordFrom
 word-at l place =
     let m = drop place l in
@@ -100,29 +100,29 @@ word-at l place =
     let z : place + g + r - (place + g) ≡ r = omega arith in
     let b : begins n ≡ false → n ≡ [] = rw d at (gap-begins m) in
     sym (skip-words m)
-    ∙ rw (d, z) (word-here (begins n) n refl b ∙ ap (λ (x : List ℕ). led (take r n) (wordsOf x)) (drop-drop r (place + g) l))
+    ∙ rw (d, z) (word-here (begins n) n refl b ∙ ap (λ (x : List ℕ). led (take r n) (lineWords x)) (drop-drop r (place + g) l))
 
 -- ---- stripping a line leaves its words
-stripped : (s : Bool) (b : ℕ) (bs front : List ℕ) → isSpace b ≡ s → wordsOf front ≡ wordsOf bs → wordsOf (cond s front (b ∷ bs)) ≡ wordsOf (b ∷ bs)
-unfolding wordsOf
+stripped : (s : Bool) (b : ℕ) (bs front : List ℕ) → isSpace b ≡ s → lineWords front ≡ lineWords bs → lineWords (cond s front (b ∷ bs)) ≡ lineWords (b ∷ bs)
+unfolding lineWords
 stripped true b bs front e h = rw e h
 stripped false b bs front e h = refl
 
-strip-front : (l : List ℕ) → wordsOf (stripFront l) ≡ wordsOf l
+strip-front : (l : List ℕ) → lineWords (stripFront l) ≡ lineWords l
 unfolding stripFront
 strip-front [] = refl
 strip-front (b ∷ bs) = stripped (isSpace b) b bs (stripFront bs) refl (strip-front bs)
 
 -- the words and whether one begins at once: what a byte in front can see of a list
 abbrev Alike : List ℕ → List ℕ → Type 0
-Alike l m = (wordsOf l ≡ wordsOf m) × (begins l ≡ begins m)
+Alike l m = (lineWords l ≡ lineWords m) × (begins l ≡ begins m)
 
 in-front : (b : ℕ) (l m : List ℕ) → Alike l m → Alike (b ∷ l) (b ∷ m)
-unfolding wordsOf begins
+unfolding lineWords begins
 in-front b l m a = (rw (a .0, a .1), refl)
 
 lone : (s : Bool) (b : ℕ) (m : List ℕ) → isSpace b ≡ s → Alike [] m → Alike (cond s [] (b ∷ [])) (b ∷ m)
-unfolding wordsOf begins notSpace
+unfolding lineWords begins notSpace
 lone true b m e a = (rw e (a .0), rw e)
 lone false b m e a = (rw (e, ← a .0, ← a .1), refl)
 
@@ -136,7 +136,7 @@ unfolding stripEnd
 strip-end [] = (refl, refl)
 strip-end (b ∷ bs) = kept b (stripEnd bs) bs (strip-end bs)
 
-pub strip-words : (l : List ℕ) → wordsOf (strip l) ≡ wordsOf l
+pub strip-words : (l : List ℕ) → lineWords (strip l) ≡ lineWords l
 unfolding strip
 strip-words l = strip-front (stripEnd l) ∙ strip-end l .0
 
@@ -197,7 +197,7 @@ abbrev pub part : List ℕ → Bounds → List ℕ
 part l b = take (b .end - b .start) (drop (b .start) l)
 
 three-first : (l : List ℕ)
-    → wordsOf l ≡ led (part l (firstWords l .tick)) (led (part l (firstWords l .name)) (led (part l (firstWords l .id)) (wordsOf (drop (firstWords l .id .end) l))))
+    → lineWords l ≡ led (part l (firstWords l .tick)) (led (part l (firstWords l .name)) (led (part l (firstWords l .id)) (lineWords (drop (firstWords l .id .end) l))))
 unfolding firstWords
 three-first l =
     let a = wordFrom l 0 in
@@ -205,5 +205,5 @@ three-first l =
     word-at l 0 ∙ ap (led (part l a)) (word-at l (a .end) ∙ ap (led (part l b)) (word-at l (b .end)))
 
 pub three-words : (l : List ℕ) (w : FirstWords) → w ≡ firstWords l
-    → wordsOf l ≡ led (part l (w .tick)) (led (part l (w .name)) (led (part l (w .id)) (wordsOf (drop (w .id .end) l))))
+    → lineWords l ≡ led (part l (w .tick)) (led (part l (w .name)) (led (part l (w .id)) (lineWords (drop (w .id .end) l))))
 three-words l w e = rw e (three-first l)

@@ -57,10 +57,10 @@ begins [] = false
 begins (b ∷ bs) = notSpace b
 
 -- the words of a line: its runs of bytes that are no white space
-unfoldable pub wordsOf : List ℕ → List (List ℕ)
-wordsOf [] = []
-wordsOf (b ∷ bs) =
-    cond (isSpace b) (wordsOf bs) (cond (begins bs) (joined b (wordsOf bs)) ((b ∷ []) ∷ wordsOf bs))
+unfoldable pub lineWords : List ℕ → List (List ℕ)
+lineWords [] = []
+lineWords (b ∷ bs) =
+    cond (isSpace b) (lineWords bs) (cond (begins bs) (joined b (lineWords bs)) ((b ∷ []) ∷ lineWords bs))
 
 -- ---- the same by places, for the word finder
 

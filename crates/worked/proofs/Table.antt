@@ -9,7 +9,7 @@ use Rattle.basis.specs.Basis.{plantCount}
 use Rattle.plants.specs.State.{tested, noneSet, countsFit}
 use Rattle.plants.specs.State as State
 use Rattle.plants_lineup.specs.Shuffle.{shuffledFrom, picksWithin}
-use Rattle.plants_lineup.specs.Core.{picksInRange, idsFrom, those, lineUp, inserted, sorted, coreOf, flagsFit, healthyCount}
+use Rattle.plants_lineup.specs.Core.{picksInRange, idsFrom, those, lineUp, insertedId, sortedIds, coreOf, recoveringFit, healthyCount}
 use Rattle.plants_liveness.specs.Choice.{member, inCore, risen, lentTested, choiceTested, chosen}
 use Rattle.nights.specs.Record.{wordsOf, recs}
 use Rattle.nights.specs.Net.{keep, every, earlier, insertBy, insertAll, dues, lostBy, replayedBy, delayedBy, copies, effect, goodOptions, goodRecord, ahead, rising, goodCounts, wellFormed}
@@ -22,9 +22,9 @@ pub worked : Worked
 unfolding
     numberOf unsigned inDigits isNumber allDigits isDigit valueOf
     toBits ofBits goodWord isOne isZero thresholdOf byWord genBool genBoolInSend
-    tested plantCount State.wellFormed noneSet countsFit
-    shuffledFrom picksWithin picksInRange idsFrom those lineUp inserted sorted coreOf
-    member inCore risen flagsFit healthyCount lentTested choiceTested chosen
+    tested plantCount State.plantsFormed noneSet countsFit
+    shuffledFrom picksWithin picksInRange idsFrom those lineUp insertedId sortedIds coreOf
+    member inCore risen recoveringFit healthyCount lentTested choiceTested chosen
     isFaulted extrasFor extraAt dueAt isTick isLate alone both afterReplay afterLoss decided
     keep every earlier insertBy insertAll dues lostBy replayedBy delayedBy copies effect goodOptions goodRecord ahead rising goodCounts wellFormed
     logged goodHeader wordsOf recs undoWords undoAs undoOne checked onward undoAll verdict tests settle doPlain rewound doRewind doMark step run

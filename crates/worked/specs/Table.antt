@@ -12,7 +12,7 @@ use Rattle.numeral.specs.declared.Number.the-variants.{Value, Bad}
 use Rattle.chance.specs.Probability.{thresholdOf}
 use Rattle.chance.specs.Draw.{genBoolInSend}
 use Rattle.chance.specs.declared.Draw.the-variants.{No}
-use Rattle.plants.specs.State.{fresh}
+use Rattle.plants.specs.State.{freshPlants}
 use Rattle.plants_liveness.specs.Choice.{chosen}
 use Rattle.properties_durability.specs.Durability.{neededCopies}
 use Rattle.nights.specs.Record.{Record}
@@ -42,7 +42,7 @@ threshold p = thresholdOf (toBits binary64 p)
 
 -- the core of 5 plants, all up, of which plant 0 is recovering, by the picks 4, 4, 3, 2, 1 and a last one
 abbrev pub core : ℕ → List ℕ
-core last = take 4 (chosen (fresh 5) (1 ∷ 0 ∷ 0 ∷ 0 ∷ 0 ∷ []) (4 ∷ 4 ∷ 3 ∷ 2 ∷ 1 ∷ last ∷ []) false .core)
+core last = take 4 (chosen (freshPlants 5) (1 ∷ 0 ∷ 0 ∷ 0 ∷ 0 ∷ []) (4 ∷ 4 ∷ 3 ∷ 2 ∷ 1 ∷ last ∷ []) false .core)
 
 -- the run: loss 0.5, replay 0.5, minimum 2, mean 10; a send at 10 of kind 1, draws 9223372036854775808 and 0, extras 5 and 0
 abbrev pub options : Options
@@ -63,7 +63,7 @@ send = plain (Net.send letter draws extras)
 abbrev pub taking : ℕ → Call
 taking now = plain (Net.take now 80)
 
--- after calls from a fresh network and a journal of 82 words, just marked
+-- after calls from a freshPlants network and a journal of 82 words, just marked
 abbrev pub after : List Call → State
 after cs = ran fateOf options (replicate 80 9) cs
 

@@ -3,13 +3,13 @@ use Prim.Native.Nat.{_-_, _≤_}
 use mathlib.Core.Path.{_≡_, refl, sym, _∙_}
 use native.Mathlib.Omega.{arith}
 use lib.ListN.{length, drop}
-use Rattle.plants_lineup.specs.Core.{flagsFit}
+use Rattle.plants_lineup.specs.Core.{recoveringFit}
 use Rattle.plants_lineup.proofs.Walks.{flag-fits, flag-over, flags-end}
 use Rattle.plants_lineup.proofs.flags_fit.Statement.{statement}
 use Rattle.plants_lineup.proofs.flags_fit.Tie as tie
 
 abbrev Inv-loop : tie.InvT-loop
-Inv-loop flags i₀ i = (i ≤ length flags) × (flagsFit flags ≡ flagsFit (drop i flags))
+Inv-loop flags i₀ i = (i ≤ length flags) × (recoveringFit flags ≡ recoveringFit (drop i flags))
 
 abbrev μ-loop : tie.MeasureT-loop
 μ-loop flags i₀ i = length flags - i

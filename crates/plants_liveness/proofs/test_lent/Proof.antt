@@ -9,7 +9,7 @@ use Rattle.plants.specs.State.{tested}
 use Rattle.plants.specs.declared.refusal.Test.the-variants.{Passed}
 use Rattle.plants.proofs.Testing.{bounds}
 use Rattle.basis.specs.Basis.{quorum}
-use Rattle.plants_lineup.specs.Core.{flagsFit, healthyCount}
+use Rattle.plants_lineup.specs.Core.{recoveringFit, healthyCount}
 use Rattle.plants_liveness.proofs.Lending.{bad-state, other-length, flag-over, too-few-healthy, too-few-picks, by-range}
 use borrow.Author.Needs.{needs}
 use Rattle.plants_liveness.proofs.test_lent.Statement.{statement}
@@ -22,7 +22,7 @@ passes c = sym (c .before .before .test .ensures) ∙ c .enum-told .given .1
 same : (c : tie.Else1) → length (c .before .before .before .before .before .before .args .recovering .now) ≡ c .before .before .before .before .before .before .args .plants .n
 same c = c .if1 .left
 
-fit : (c : tie.Else2) → flagsFit (c .before .before .before .before .before .before .before .before .args .recovering .now) ≡ true
+fit : (c : tie.Else2) → recoveringFit (c .before .before .before .before .before .before .before .before .args .recovering .now) ≡ true
 fit c = sym (c .before .flags-fit .ensures) ∙ not-false _ (c .if2 .left)
 
 counted : (c : tie.Else2) → let a = c .before .before .before .before .before .before .before .before .args in (k : ℕ) → k ≡ healthyCount (length (a .recovering .now)) (a .recovering .now)

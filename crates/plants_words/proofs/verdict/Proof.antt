@@ -2,7 +2,7 @@
 use Prim.Native.Nat.{_≤_}
 use mathlib.Core.Path.{_≡_, sym, ap, _∙_}
 use mathlib.Core.List.{[], _∷_}
-use Rattle.plants.specs.Verdicts.{judged}
+use Rattle.plants.specs.Verdicts.{verdictGiven}
 use Rattle.plants.specs.declared.Plants.{Plants}
 use Rattle.plants.specs.declared.Origin.{Origin}
 use Rattle.plants_words.specs.Layout.{plantsIn, shaped, originIn}
@@ -21,12 +21,12 @@ known c = c .before .before .before .before .before .if1 .left
 whole : (c : tie.After-verdict) → shaped (start c .args .words .now) ≡ 0
 whole c = sym (c .before .before .before .before .shape .ensures) ∙ c .before .before .before .if2 .left
 
-is : (c : tie.After-verdict) → let a = start c .args in c .verdict .result ≡ judged (plantsIn (a .words .now)) (originIn (a .sort) (a .id)) (a .to)
+is : (c : tie.After-verdict) → let a = start c .args in c .verdict .result ≡ verdictGiven (plantsIn (a .words .now)) (originIn (a .sort) (a .id)) (a .to)
 is c =
     let a = start c .args in
     c .verdict .ensures
-    ∙ (ap (λ (s : Plants). judged s (c .before .origin-of .result) (a .to)) (c .before .before .load .ensures)
-    ∙ ap (λ (f : Origin). judged (plantsIn (a .words .now)) f (a .to)) (c .before .origin-of .ensures))
+    ∙ (ap (λ (s : Plants). verdictGiven s (c .before .origin-of .result) (a .to)) (c .before .before .load .ensures)
+    ∙ ap (λ (f : Origin). verdictGiven (plantsIn (a .words .now)) f (a .to)) (c .before .origin-of .ensures))
 
 sized-requires : tie.Need-sized-requires
 sized-requires c κs = search needs

@@ -7,7 +7,7 @@ use mathlib.Core.Path.{_≡_, sym, ap, _∙_}
 use Prim.Native.Nat.{ℕ, _/_, _≤_, _<_}
 use lib.Dec.{eqb}
 use lib.ListN.{length, length-replicate}
-use Rattle.script.specs.Scripts.{longest, heldWords, strayLine, said, judged, answerOf, wordsGiven, wordsAfter}
+use Rattle.script.specs.Scripts.{longest, heldWords, strayLine, said, linesJudged, scriptAnswer, wordsGiven, scriptWords}
 use Rattle.script.specs.declared.line.Refusal.{Refusal}
 use Rattle.script.specs.declared.line.Refusal.the-variants.{TooLong, NotAscii}
 use Rattle.script.specs.declared.Script.{Script}
@@ -17,28 +17,28 @@ use Rattle.script.proofs.parse_script.Tie as tie
 
 -- ---- the answer, test by test
 module _ (text : List ℕ) (n : ℕ) where
-  too-long : longest < length text → answerOf text n ≡ Refused TooLong 0
-  unfolding answerOf
+  too-long : longest < length text → scriptAnswer text n ≡ Refused TooLong 0
+  unfolding scriptAnswer
   too-long h = rw (lt-ltb longest (length text) h)
 
-  stray : (b : Bool) → length text ≤ longest → b ≡ eqb (strayLine text) 0 → not b ≡ true → answerOf text n ≡ Refused NotAscii (strayLine text)
-  unfolding answerOf
+  stray : (b : Bool) → length text ≤ longest → b ≡ eqb (strayLine text) 0 → not b ≡ true → scriptAnswer text n ≡ Refused NotAscii (strayLine text)
+  unfolding scriptAnswer
   stray true h e s = absurd (false≢true s)
   stray false h e s = rw (le-ltb longest (length text) h, ← e)
 
-  judges : (b : Bool) → length text ≤ longest → b ≡ eqb (strayLine text) 0 → not b ≡ false → answerOf text n ≡ judged (n / 3) 1 0 (said text)
-  unfolding answerOf
+  judges : (b : Bool) → length text ≤ longest → b ≡ eqb (strayLine text) 0 → not b ≡ false → scriptAnswer text n ≡ linesJudged (n / 3) 1 0 (said text)
+  unfolding scriptAnswer
   judges true h e s = rw (le-ltb longest (length text) h, ← e)
   judges false h e s = absurd (false≢true (sym s))
 
 -- ---- the words, by the answer
 module _ (text words : List ℕ) where
-  refused : (r : Refusal) (n : ℕ) → answerOf text (length words) ≡ Refused r n → (Refused r n ≡ answerOf text (length words)) × (words ≡ wordsAfter text words)
-  unfolding wordsAfter
+  refused : (r : Refusal) (n : ℕ) → scriptAnswer text (length words) ≡ Refused r n → (Refused r n ≡ scriptAnswer text (length words)) × (words ≡ scriptWords text words)
+  unfolding scriptWords
   refused r n e = (sym e, rw e)
 
-  answered : (r j : Script) (w : List ℕ) → answerOf text (length words) ≡ j → r ≡ j → w ≡ wordsGiven r text words → (r ≡ answerOf text (length words)) × (w ≡ wordsAfter text words)
-  unfolding wordsAfter
+  answered : (r j : Script) (w : List ℕ) → scriptAnswer text (length words) ≡ j → r ≡ j → w ≡ wordsGiven r text words → (r ≡ scriptAnswer text (length words)) × (w ≡ scriptWords text words)
+  unfolding scriptWords
   answered r j w e q g = (q ∙ sym e, g ∙ rw (e, q))
 
 returns : tie.Need-returns
@@ -73,7 +73,7 @@ returns-3 c =
     let r = c .before .before .before in
     let i = r .before .before .before in
     let a = i .before .before .before .before .before .args in
-    answered (a .text .now) (a .events .now) (r .read-script .result) (judged (length (a .events .now) / 3) 1 0 (said (a .text .now))) (r .read-script .last .1 .0)
+    answered (a .text .now) (a .events .now) (r .read-script .result) (linesJudged (length (a .events .now) / 3) 1 0 (said (a .text .now))) (r .read-script .last .1 .0)
     (judges (a .text .now) (length (a .events .now)) (i .before .ascii .result) (i .before .before .if1 .left) (i .before .ascii .ensures) (i .if2 .left))
     (r .read-script .ensures .0) (r .read-script .ensures .1)
 

@@ -7,13 +7,13 @@ use Prim.Native.Nat.{ℕ, _+_, _*_, _≤_}
 use lib.ListN.{length, take, drop, set, length-set}
 use lib.Seq.{sets-eq}
 use Rattle.basis.specs.Basis.{laid}
-use Rattle.order.specs.Order.{wordsOf}
+use Rattle.order.specs.Order.{eventWords}
 use Rattle.script.specs.Faults.{faultNumber, faultId}
 use Rattle.script.proofs.put_event.Statement.{statement}
 use Rattle.script.proofs.put_event.Tie as tie
 
-three-laid : (l : List ℕ) (p a b d : ℕ) → p + 3 ≤ length l → set (set (set l p a) (p + 1) b) (p + 2) d ≡ laid l p (wordsOf (record { tick = a; fault = b; id = d } ∷ []))
-unfolding wordsOf
+three-laid : (l : List ℕ) (p a b d : ℕ) → p + 3 ≤ length l → set (set (set l p a) (p + 1) b) (p + 2) d ≡ laid l p (eventWords (record { tick = a; fault = b; id = d } ∷ []))
+unfolding eventWords
 three-laid l p a b d h = rw (add-one p, add-two p) (sets-eq (a ∷ b ∷ d ∷ []) l p h ∙ append-assoc (take p l) (a ∷ b ∷ d ∷ []) (drop (p + 3) l))
 
 mul-place : tie.Need-mul-place

@@ -6,9 +6,9 @@ use Prim.Native.Nat.{ℕ, _+_, _*_, _/_, _≤_, _<_, _^_}
 use lib.ListN.{length, take, drop, length-append, length-drop}
 use lib.Seq.{take-at, drop-at, length-take-le}
 use Rattle.basis.specs.Basis.{laid}
-use Rattle.order.specs.Order.{mostSorted, scratchWords, wordsOf, eventsIn, sorted}
+use Rattle.order.specs.Order.{mostSorted, scratchWords, eventWords, eventsIn, sorted}
 use Rattle.order.proofs.Laws.{length-wordsOf, eventsIn-wordsOf}
-use Rattle.script.specs.Scripts.{longest, heldWords, said, eventsOf, judged, sortedEvents, wordsGiven}
+use Rattle.script.specs.Scripts.{longest, heldWords, said, eventsOf, linesJudged, sortedEvents, wordsGiven}
 use Rattle.script.specs.declared.Script.{Script}
 use Rattle.script.specs.declared.Script.the-variants.{Events}
 use Rattle.script.proofs.Judging.{accepted}
@@ -22,7 +22,7 @@ record Counted (text words : List ℕ) (n : ℕ) : Type 0 where
   fits : 3 * n ≤ length words
   most : 3 * n ≤ heldWords
 
-counted : (text words : List ℕ) (n : ℕ) (r : Script) → length text ≤ longest → r ≡ judged (length words / 3) 1 0 (said text) → r ≡ Events n → Counted text words n
+counted : (text words : List ℕ) (n : ℕ) (r : Script) → length text ≤ longest → r ≡ linesJudged (length words / 3) 1 0 (said text) → r ≡ Events n → Counted text words n
 counted text words n r short e q =
     let a = accepted (length words / 3) 1 0 n (said text) (sym e ∙ q) in
     let h = a .1 (omega arith) in
@@ -34,14 +34,14 @@ module _ (text words : List ℕ) (n : ℕ) (k : Counted text words n) (front : L
   as-long : length (front ++ drop (3 * n) words) ≡ length words
   as-long = omega (arith, length-append front (drop (3 * n) words), length-drop (3 * n) words, length-take-le (3 * n) words (k .fits), k .fits)
 
-  given : (start held w : List ℕ) → held ≡ laid start 0 (wordsOf (eventsOf (said text))) → front ≡ take (length (take (3 * n) words)) held
-      → w ≡ wordsOf (sorted (eventsIn (take (3 * n) (front ++ drop (3 * n) words)))) ++ drop (3 * n) (front ++ drop (3 * n) words) → w ≡ wordsGiven (Events n) text words
+  given : (start held w : List ℕ) → held ≡ laid start 0 (eventWords (eventsOf (said text))) → front ≡ take (length (take (3 * n) words)) held
+      → w ≡ eventWords (sorted (eventsIn (take (3 * n) (front ++ drop (3 * n) words)))) ++ drop (3 * n) (front ++ drop (3 * n) words) → w ≡ wordsGiven (Events n) text words
   unfolding sortedEvents
   given start held w e f g =
       let all = eventsOf (said text) in
-      let size : length (wordsOf all) ≡ 3 * n = omega (arith, length-wordsOf all, k .all) in
-      let copied : front ≡ wordsOf all = f ∙ rw (length-take-le (3 * n) words (k .fits), e) (take-at (wordsOf all) (drop (0 + length (wordsOf all)) start) (3 * n) size) in
-      rw (g, copied, take-at (wordsOf all) (drop (3 * n) words) (3 * n) size, drop-at (wordsOf all) (drop (3 * n) words) (3 * n) size, eventsIn-wordsOf all)
+      let size : length (eventWords all) ≡ 3 * n = omega (arith, length-wordsOf all, k .all) in
+      let copied : front ≡ eventWords all = f ∙ rw (length-take-le (3 * n) words (k .fits), e) (take-at (eventWords all) (drop (0 + length (eventWords all)) start) (3 * n) size) in
+      rw (g, copied, take-at (eventWords all) (drop (3 * n) words) (3 * n) size, drop-at (eventWords all) (drop (3 * n) words) (3 * n) size, eventsIn-wordsOf all)
 
 -- ---- what is asked on the way
 module _ (text words : List ℕ) (n : ℕ) (k : Counted text words n) where

@@ -4,7 +4,7 @@ use native.Mathlib.Omega.{arith}
 use mathlib.Core.Path.{sym, ap, _∙_}
 use Prim.Native.Nat.{ℕ, _+_, _*_, _≤_}
 use lib.ListN.{length}
-use Rattle.script.specs.Scripts.{refusalNumber}
+use Rattle.script.specs.Scripts.{scriptRefusal}
 use Rattle.script.specs.declared.line.Refusal.{Refusal}
 use Rattle.script.specs.declared.line.Refusal.the-variants.{TooLong, NotAscii, OneWord, BadTick, UnknownFault, MissingId, BadId, NoRoom}
 use Rattle.script.proofs.Laws.{refusal-line}
@@ -13,7 +13,7 @@ use borrow.Author.Needs.{needs}
 use Rattle.script_packed.proofs.parse_script.Statement.{statement}
 use Rattle.script_packed.proofs.parse_script.Tie as tie
 
-few : (r : Refusal) → refusalNumber r ≤ 8
+few : (r : Refusal) → scriptRefusal r ≤ 8
 few TooLong = omega arith
 few NotAscii = omega arith
 few OneWord = omega arith

@@ -7,9 +7,9 @@ use Prim.Native.Nat.{ℕ, _+_, _*_, _≤_, _<_}
 use lib.ListN.{length, take, drop, replicate, length-replicate}
 use lib.Seq.{take-at}
 use Rattle.basis.specs.Basis.{laid}
-use Rattle.order.specs.Order.{wordsOf, eventsIn}
+use Rattle.order.specs.Order.{eventWords, eventsIn}
 use Rattle.order.proofs.Laws.{length-wordsOf, eventsIn-wordsOf}
-use Rattle.script.specs.Scripts.{refusalNumber, answerOf, sortedEvents, wordsAfter}
+use Rattle.script.specs.Scripts.{scriptRefusal, scriptAnswer, sortedEvents, scriptWords}
 use Rattle.script.specs.declared.line.Refusal.{Refusal}
 use Rattle.script.specs.declared.Script.the-variants.{Events, Refused}
 use Rattle.script.proofs.Laws.{events-counted}
@@ -33,24 +33,24 @@ settled text out t r o h e f g =
     let z : 0 + length t ≡ length t = omega arith in
     (rw (le-leb enough (length out) h, e, f), rw (le-leb enough (length out) h, e, g, z))
 
-accepted-text : (text : List ℕ) (m : ℕ) → answerOf text eventRoom ≡ Events m → reportText text ≡ listed m (sortedEvents text)
+accepted-text : (text : List ℕ) (m : ℕ) → scriptAnswer text eventRoom ≡ Events m → reportText text ≡ listed m (sortedEvents text)
 unfolding reportText
 accepted-text text m e = rw e
 
-refused-text : (text : List ℕ) (r : Refusal) (n : ℕ) → answerOf text eventRoom ≡ Refused r n → reportText text ≡ numberLine refusalKey (refusalNumber r) ++ numberLine lineKey n
+refused-text : (text : List ℕ) (r : Refusal) (n : ℕ) → scriptAnswer text eventRoom ≡ Refused r n → reportText text ≡ numberLine refusalKey (scriptRefusal r) ++ numberLine lineKey n
 unfolding reportText
 refused-text text r n e = rw e
 
 -- the words that the reader left hold the events
-given : (text : List ℕ) (m : ℕ) (w : List ℕ) → answerOf text eventRoom ≡ Events m → m ≡ length (sortedEvents text) → w ≡ wordsAfter text (replicate eventRoom 0)
+given : (text : List ℕ) (m : ℕ) (w : List ℕ) → scriptAnswer text eventRoom ≡ Events m → m ≡ length (sortedEvents text) → w ≡ scriptWords text (replicate eventRoom 0)
     → eventsIn (take (3 * m) w) ≡ sortedEvents text
-unfolding wordsAfter
+unfolding scriptWords
 given text m w e n f =
     let es = sortedEvents text in
-    rw (f, length-replicate {A = ℕ} eventRoom 0, e, take-at (wordsOf es) (drop (3 * m) (replicate eventRoom 0)) (3 * m) (omega (arith, length-wordsOf es))) (eventsIn-wordsOf es)
+    rw (f, length-replicate {A = ℕ} eventRoom 0, e, take-at (eventWords es) (drop (3 * m) (replicate eventRoom 0)) (3 * m) (omega (arith, length-wordsOf es))) (eventsIn-wordsOf es)
 
-answered : (c : tie.After-parse-script) → answerOf (c .before .before .before .before .before .args .text .now) eventRoom ≡ c .parse-script .result
-answered c = ap (answerOf (c .before .before .before .before .before .args .text .now)) (sym (length-replicate {A = ℕ} eventRoom 0)) ∙ sym (c .parse-script .ensures .0)
+answered : (c : tie.After-parse-script) → scriptAnswer (c .before .before .before .before .before .args .text .now) eventRoom ≡ c .parse-script .result
+answered c = ap (scriptAnswer (c .before .before .before .before .before .args .text .now)) (sym (length-replicate {A = ℕ} eventRoom 0)) ∙ sym (c .parse-script .ensures .0)
 
 returns : tie.Need-returns
 returns c =
@@ -128,7 +128,7 @@ returns-3 c =
     let a = st .before .before .before .args in
     let g = c .before .before .before .before .before .before .before .before .before .before .before .before .refusal .given in
     let e = answered p ∙ g .1 in
-    let n = refusalNumber (g .0 .0) in
+    let n = scriptRefusal (g .0 .0) in
     let q = r .refusal-number .ensures in
     let t =
     laid-two (a .out .now) 0 (numberLine refusalKey n) (numberLine lineKey (g .0 .1 .0))

@@ -1,6 +1,6 @@
 -- `plants::Plants::after` meets its contract: a fault of a known plant, by its sort. Assumes nothing.
 use mathlib.Core.Path.{refl, sym, ap, _∙_}
-use Rattle.plants.specs.Faults.{after}
+use Rattle.plants.specs.Faults.{afterFault}
 use Rattle.plants.proofs.Testing.{counts}
 use Rattle.plants.proofs.Counting.{id-below}
 use borrow.Author.Needs.{needs}
@@ -59,40 +59,40 @@ healed-requires : tie.Need-healed-requires
 healed-requires c κs = search needs
 
 returns : tie.Need-returns
-unfolding after
+unfolding afterFault
 returns c =
     let a = c .before .before .before .before .args in
-    c .crashed .ensures ∙ ap (after a.self a.tick) (sym (c .before .before .fault .given .1))
+    c .crashed .ensures ∙ ap (afterFault a.self a.tick) (sym (c .before .before .fault .given .1))
 
 returns-2 : tie.Need-returns-2
-unfolding after
+unfolding afterFault
 returns-2 c =
     let a = c .before .before .before .before .args in
-    c .restarted .ensures ∙ ap (after a.self a.tick) (sym (c .before .before .fault2 .given .1))
+    c .restarted .ensures ∙ ap (afterFault a.self a.tick) (sym (c .before .before .fault2 .given .1))
 
 returns-3 : tie.Need-returns-3
-unfolding after
+unfolding afterFault
 returns-3 c =
     let a = c .before .before .before .before .args in
-    c .rebooted .ensures ∙ ap (after a.self a.tick) (sym (c .before .before .fault3 .given .1))
+    c .rebooted .ensures ∙ ap (afterFault a.self a.tick) (sym (c .before .before .fault3 .given .1))
 
 returns-4 : tie.Need-returns-4
-unfolding after
+unfolding afterFault
 returns-4 c =
     let a = c .before .before .before .before .args in
-    c .parted .ensures ∙ ap (after a.self a.tick) (sym (c .before .before .fault4 .given .1))
+    c .parted .ensures ∙ ap (afterFault a.self a.tick) (sym (c .before .before .fault4 .given .1))
 
 returns-5 : tie.Need-returns-5
-unfolding after
+unfolding afterFault
 returns-5 c =
     let a = c .before .before .before .before .args in
-    c .parted2 .ensures ∙ ap (after a.self a.tick) (sym (c .before .before .fault5 .given .1))
+    c .parted2 .ensures ∙ ap (afterFault a.self a.tick) (sym (c .before .before .fault5 .given .1))
 
 returns-6 : tie.Need-returns-6
-unfolding after
+unfolding afterFault
 returns-6 c =
     let a = c .before .before .before .args in
-    c .healed .ensures ∙ ap (after a.self a.tick) (sym (c .before .enum-told .given .1))
+    c .healed .ensures ∙ ap (afterFault a.self a.tick) (sym (c .before .enum-told .given .1))
 
 pub after-spec : {M : Type 1} → statement M
 after-spec =

@@ -3,7 +3,7 @@ use mathlib.Core.Bool.{true}
 use mathlib.Core.Path.{_≡_, sym, ap, _∙_}
 use borrow.Author.Tests.{not-true, not-false}
 use Rattle.plants.specs.State.{tested, countsFit}
-use Rattle.plants.specs.Faults.{after, knows}
+use Rattle.plants.specs.Faults.{afterFault, knows}
 use Rattle.plants.specs.declared.Outcome.the-variants.{Refused}
 use Rattle.plants.specs.declared.refusal.Test.the-variants.{Passed}
 use Rattle.plants.proofs.Applying.{bad-state, unknown-plant, count-full, no-nonce, goes, nonce-drawn, nonce-missing}
@@ -18,7 +18,7 @@ passes c = sym (c .before .before .test .ensures) ∙ c .enum-told .given .1
 known : (c : tie.Else1) → knows (c .before .before .before .before .before .before .args .self) (c .before .before .before .before .before .before .args .fault) ≡ true
 known c = sym (c .before .knows .ensures) ∙ not-false _ (c .if1 .left)
 
-fits : (c : tie.Else2) → let a = c .before .before .before .before .before .before .before .before .before .args in countsFit (after a.self a.tick a.fault) ≡ true
+fits : (c : tie.Else2) → let a = c .before .before .before .before .before .before .before .before .before .args in countsFit (afterFault a.self a.tick a.fault) ≡ true
 fits c = ap countsFit (sym (c .before .before .after .ensures)) ∙ (sym (c .before .counts-fit .ensures) ∙ not-false _ (c .if2 .left))
 
 test-requires : tie.Need-test-requires

@@ -1,6 +1,6 @@
 -- `plants::Plants::crashed` meets its contract: the count rises by one at most. Assumes nothing.
 use native.Mathlib.Omega.{arith}
-use Rattle.plants.specs.Faults.{after}
+use Rattle.plants.specs.Faults.{afterFault}
 use borrow.Author.Needs.{needs}
 use Rattle.plants.proofs.Plants.crashed.Statement.{statement}
 use Rattle.plants.proofs.Plants.crashed.Tie as tie
@@ -24,7 +24,7 @@ element-write-me-2 : tie.Need-element-write-me-2
 element-write-me-2 c = search needs
 
 returns : tie.Need-returns
-unfolding after
+unfolding afterFault
 returns c = rw (c .flag-word .ensures .0)
 
 pub crashed-spec : {M : Type 1} → statement M

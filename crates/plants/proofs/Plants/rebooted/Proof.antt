@@ -1,6 +1,6 @@
 -- `plants::Plants::rebooted` meets its contract. Assumes nothing.
 use mathlib.Core.Path.{refl}
-use Rattle.plants.specs.Faults.{after}
+use Rattle.plants.specs.Faults.{afterFault}
 use borrow.Author.Needs.{needs}
 use Rattle.plants.proofs.Plants.rebooted.Statement.{statement}
 use Rattle.plants.proofs.Plants.rebooted.Tie as tie
@@ -21,7 +21,7 @@ element-write-me-2 : tie.Need-element-write-me-2
 element-write-me-2 c = search needs
 
 returns : tie.Need-returns
-unfolding after
+unfolding afterFault
 returns c = refl
 
 pub rebooted-spec : {M : Type 1} → statement M

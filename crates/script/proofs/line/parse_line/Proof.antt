@@ -8,14 +8,14 @@ use Prim.Native.Nat.{ℕ, _+_}
 use lib.Dec.{eqb}
 use lib.ListN.{take}
 use lib.Seq.{length-take-le}
-use Rattle.script_words.specs.Words.{until, cutAt, wordsOf}
+use Rattle.script_words.specs.Words.{until, cutAt, lineWords}
 use Rattle.script.specs.Lines.{ofWords, lineSays}
 use Rattle.script_words.proofs.Walk.{until-within}
 use Rattle.script_words.proofs.Cutting.{strip-words}
 use Rattle.script.proofs.line.parse_line.Statement.{statement}
 use Rattle.script.proofs.line.parse_line.Tie as tie
 
-cut-says : (l : List ℕ) (r : ℕ) → r ≡ 0 + until (eqb 35) l → ofWords (wordsOf (take r l)) ≡ lineSays l
+cut-says : (l : List ℕ) (r : ℕ) → r ≡ 0 + until (eqb 35) l → ofWords (lineWords (take r l)) ≡ lineSays l
 unfolding lineSays cutAt
 cut-says l r e =
     let z : r ≡ until (eqb 35) l = omega arith in

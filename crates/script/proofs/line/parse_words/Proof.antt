@@ -1,7 +1,7 @@
 -- `script::line::parse_words` meets its contract, by the line's first three words. Assumes nothing.
 use mathlib.Core.Path.{sym, ap, _∙_}
 use lib.ListN.{drop}
-use Rattle.script_words.specs.Words.{wordsOf}
+use Rattle.script_words.specs.Words.{lineWords}
 use Rattle.script.specs.Lines.{ofWords}
 use Rattle.script_words.proofs.Cutting.{part, Inside, inside, three-words}
 use Rattle.script.proofs.Saying.{blank, one-word, bad-tick, unknown, known}
@@ -63,7 +63,7 @@ returns-3 c =
     let l = f .before .before .args .line .now in
     let w = f .first-words .result in
     let all = ap ofWords (sym (three-words l w (f .first-words .ensures))) in
-    bad-tick (part l (w .tick)) (part l (w .name)) (part l (w .id)) (wordsOf (drop (w .id .end) l)) (c .before .before .before .before .before .if1 .left) (c .before .before .before .if2 .left)
+    bad-tick (part l (w .tick)) (part l (w .name)) (part l (w .id)) (lineWords (drop (w .id .end) l)) (c .before .before .before .before .before .if1 .left) (c .before .before .before .if2 .left)
     (sym (c .before .before .read .ensures) ∙ c .enum-told .given .1)
     ∙ all
 
@@ -82,7 +82,7 @@ returns-4 c =
     let l = f .before .before .args .line .now in
     let w = f .first-words .result in
     let all = ap ofWords (sym (three-words l w (f .first-words .ensures))) in
-    unknown (part l (w .tick)) (part l (w .name)) (part l (w .id)) (wordsOf (drop (w .id .end) l)) (c .before .before .before .before .before .before .before .before .before .if1 .left) (c .before .before .before .before .before .before .before .if2 .left)
+    unknown (part l (w .tick)) (part l (w .name)) (part l (w .id)) (lineWords (drop (w .id .end) l)) (c .before .before .before .before .before .before .before .before .before .if1 .left) (c .before .before .before .before .before .before .before .if2 .left)
     (c .before .before .before .before .tick .given .0 .0)
     (sym (c .before .before .before .before .before .before .read .ensures) ∙ c .before .before .before .before .tick .given .1)
     (sym (c .before .before .fault-of .ensures) ∙ c .enum-told2 .given .1)
@@ -107,7 +107,7 @@ returns-5 c =
     let w = f .first-words .result in
     let all = ap ofWords (sym (three-words l w (f .first-words .ensures))) in
     c .parse-id .ensures
-    ∙ (known (part l (w .tick)) (part l (w .name)) (part l (w .id)) (wordsOf (drop (w .id .end) l)) (c .before .before .before .before .before .before .before .before .before .before .before .before .if1 .left) (c .before .before .before .before .before .before .before .before .before .before .if2 .left)
+    ∙ (known (part l (w .tick)) (part l (w .name)) (part l (w .id)) (lineWords (drop (w .id .end) l)) (c .before .before .before .before .before .before .before .before .before .before .before .before .if1 .left) (c .before .before .before .before .before .before .before .before .before .before .if2 .left)
     (c .before .before .before .before .before .before .before .tick .given .0 .0)
     (c .before .before .before .fault .given .0 .0)
     (sym (c .before .before .before .before .before .before .before .before .before .read .ensures) ∙ c .before .before .before .before .before .before .before .tick .given .1)
