@@ -6,7 +6,7 @@ ghost use lib.ListN.{length, getD};
 ghost use Rattle.basis.specs.Basis.{most};
 ghost use Rattle.properties_snapshots.specs.Cluster.{sameEntry, entryIn};
 ghost use Rattle.properties_snapshots.specs.Fits.{plantsFit, snapshotFits, lastsFit, trackerFits};
-ghost use Rattle.properties_snapshots.specs.Layout.{entryWords, idAt, logEntries, logWords, plantWords, recoveringAt, commitAt, opAt, sizeAt, entryAt};
+ghost use Rattle.properties_snapshots.specs.Layout.{entryWords, idAt, logEntries, plantWords, recoveringAt, commitAt, opAt, sizeAt, entryAt};
 ghost use Rattle.properties_snapshots.specs.Layout.{lastAt, canonicalAt, seenAt, trackerWords};
 
 // An entry is client, request, op id and op body. A log, and the tracker's canonical part, have room for 128.
