@@ -123,7 +123,7 @@ fn put_name(out: &mut [u8], at: usize, fault: u64) -> usize
     put_bytes(out, at, b"heal-all")
 }
 
-// A line with a key and a number, whose key has at most eight bytes.
+// A line with a key and a number.
 fn put_number_line(out: &mut [u8], at: usize, key: &[u8], n: u64) -> usize
     requires { ⌜ at + length (now key) + 21 ≤ length (now out) ⌝ }
     ensures place { λ r. ⌜ r ≡ at + length (numberLine (now (key .entry)) n) ⌝ }
