@@ -8,9 +8,9 @@ use native.Mathlib.Numerals.{add-one}
 use borrow.Author.Tests.{ne-eqb}
 use lib.ListN.{length, take, drop, length-drop}
 use lib.Seq.{take-all}
-use Rattle.nights.specs.Net.{Network as Plain, Plain as Call, send, effect}
+use Rattle.nights.specs.Net.{Plain, Change, send, effect}
 use Rattle.nights.specs.Draws.{fateOf}
-use Rattle.nights.specs.Journal.{Answer, done, refused}
+use Rattle.nights.specs.Tests.{Answer, done, refused}
 use Rattle.network_queue.proofs.Packing.{length-packed}
 use Rattle.network.specs.declared.Network.{Network}
 use Rattle.network.specs.Forms.{plainOf, structOf, joined, isFormed}
@@ -35,7 +35,7 @@ pub record Whole (s : Network) : Type 0 where
   pub long : length (s .words) ≡ 1024
 
 -- an accepted call leaves one
-pub stays-whole : (c : Call) (s : Network) → callAnswer c s ≡ done → Whole (callNetwork c s)
+pub stays-whole : (c : Change) (s : Network) → callAnswer c s ≡ done → Whole (callNetwork c s)
 stays-whole c s e = record { formed = stays-formed c s e; long = ap (λ (x : Network). length (x .words)) (sym f) ∙ length-packed (n .pending) few }
   where
     n : Plain
@@ -54,7 +54,7 @@ pub record Stop (place left k p : ℕ) : Type 0 where
 
 module _ (sends draws extras : List ℕ) where
   -- the send at a place, after so many draws and extras
-  abbrev pub callAt : (place d x : ℕ) → Call
+  abbrev pub callAt : (place d x : ℕ) → Change
   callAt place d x = send (letterAt sends place) (drop d draws) (drop x extras)
 
   -- ---- one more

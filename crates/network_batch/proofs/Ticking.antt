@@ -5,9 +5,9 @@ use mathlib.Core.Bool.{true, false}
 use mathlib.Core.List.{List, [], _∷_}
 use borrow.Author.Tests.{le-leb, lt-leb, eq-eqb, ne-eqb}
 use lib.ListN.{length}
-use Rattle.nights.specs.Record.{wordsOf}
-use Rattle.nights.specs.Net.{take, keep, isDue}
-use Rattle.nights.specs.Journal.{Answer, done, refused}
+use Rattle.nights.specs.Record.{recordWords}
+use Rattle.nights.specs.Net.{collect, keep, isDue}
+use Rattle.nights.specs.Tests.{Answer, done, refused}
 use Rattle.network.specs.declared.Head.{Head}
 use Rattle.network.specs.declared.Network.{Network}
 use Rattle.network.specs.Forms.{plainOf, headOf, joined, isFormed}
@@ -83,12 +83,12 @@ module _ (h r sends draws extras : List ℕ) (now : ℕ) (out told : List ℕ) w
           send-refused k p q = refuses k p (sends-first ∙ ap (afterSends h r sends draws extras now out told) q)
 
           module _ (s : Network) (d x : ℕ) (q : ran ≡ all s d x) where
-            takes-then : whole ≡ taking h r sends draws extras now out told (callAnswer (take now (length out)) s) s d x
+            takes-then : whole ≡ taking h r sends draws extras now out told (callAnswer (collect now (length out)) s) s d x
             unfolding afterSends
             takes-then = sends-first ∙ ap (afterSends h r sends draws extras now out told) q
 
-            pub take-refused : (k : ℕ) → callAnswer (take now (length out)) s ≡ refused k → (n : ℕ) → n ≡ numberAt k (length sends / messageWords)
-                → (o : List ℕ) → o ≡ written (callAnswer (take now (length out)) s) (wordsOf (keep (isDue now) (plainOf s .pending))) out
+            pub take-refused : (k : ℕ) → callAnswer (collect now (length out)) s ≡ refused k → (n : ℕ) → n ≡ numberAt k (length sends / messageWords)
+                → (o : List ℕ) → o ≡ written (callAnswer (collect now (length out)) s) (recordWords (keep (isDue now) (plainOf s .pending))) out
                 → Ticked n h r o told
             unfolding taking written
             take-refused k a n m o u =
@@ -98,15 +98,15 @@ module _ (h r sends draws extras : List ℕ) (now : ℕ) (out told : List ℕ) w
                     l .1 .0,
                     (
                       l .1 .1 .0,
-                      (u ∙ (ap (λ (z : Answer). written z (wordsOf (keep (isDue now) (plainOf s .pending))) out) a ∙ l .1 .1 .1 .0), l .1 .1 .1 .1),
+                      (u ∙ (ap (λ (z : Answer). written z (recordWords (keep (isDue now) (plainOf s .pending))) out) a ∙ l .1 .1 .1 .0), l .1 .1 .1 .1),
                     ),
                   ),
                 )
 
-            pub all-done : callAnswer (take now (length out)) s ≡ done
-                → (t : Head) (v : List ℕ) → joined t v ≡ callNetwork (take now (length out)) s
+            pub all-done : callAnswer (collect now (length out)) s ≡ done
+                → (t : Head) (v : List ℕ) → joined t v ≡ callNetwork (collect now (length out)) s
                 → (a o : List ℕ) → a ≡ headWords t
-                → o ≡ written (callAnswer (take now (length out)) s) (wordsOf (keep (isDue now) (plainOf s .pending))) out
+                → o ≡ written (callAnswer (collect now (length out)) s) (recordWords (keep (isDue now) (plainOf s .pending))) out
                 → (k : ℕ) → k ≡ length (keep (isDue now) (plainOf s .pending))
                 → Ticked 0 a v o (d ∷ x ∷ k ∷ [])
             unfolding taking written
@@ -118,7 +118,7 @@ module _ (h r sends draws extras : List ℕ) (now : ℕ) (out told : List ℕ) w
                     (
                       ap (λ (n : Network). n .words) j ∙ l .1 .1 .0,
                       (
-                        u ∙ (ap (λ (z : Answer). written z (wordsOf (keep (isDue now) (plainOf s .pending))) out) e ∙ l .1 .1 .1 .0),
+                        u ∙ (ap (λ (z : Answer). written z (recordWords (keep (isDue now) (plainOf s .pending))) out) e ∙ l .1 .1 .1 .0),
                         ap (λ (n : ℕ). d ∷ x ∷ n ∷ []) m ∙ l .1 .1 .1 .1,
                       ),
                     ),

@@ -14,11 +14,11 @@ use Rattle.chance.specs.declared.Draw.{Draw}
 use Rattle.chance.specs.declared.Draw.the-variants.{Yes, No, Short}
 use Rattle.nights.specs.Net.{Options, once, twice, Letter, send}
 use Rattle.nights.specs.Draws.{Decided, refusing, isFaulted, extrasFor, dueAt, isTick, isLate, alone, both, afterReplay, afterLoss, decided, fateOf}
-use Rattle.nights.specs.Journal.{refused, Test, verdict, refusal, sendTests, tests}
+use Rattle.nights.specs.Tests.{refused, Test, verdict, refusal, sendTests, tests}
 use Rattle.network.specs.declared.Network.{Network}
-use Rattle.network_fates.specs.declared.Refusal.{Refusal}
-use Rattle.network_fates.specs.declared.Refusal.the-variants.{BadLoss, BadReplay, MinOverMean, IllFormed, BadKindOrSort, SentLimit, ShortDraws, ShortExtras, LateTick, Full, ShortOutput, BadJournal, NoJournalRoom, TooFarBack}
-use Rattle.network_fates.specs.Answers.{number}
+use Rattle.network_options.specs.declared.Refusal.{Refusal}
+use Rattle.network_options.specs.declared.Refusal.the-variants.{BadLoss, BadReplay, MinOverMean, IllFormed, BadKindOrSort, SentLimit, ShortDraws, ShortExtras, LateTick, Full, ShortOutput, BadJournal, NoJournalRoom, TooFarBack}
+use Rattle.network_options.specs.Answers.{refusalNumber}
 use Rattle.network.specs.Forms.{plainOf}
 use Rattle.network.specs.Calls.{formTest, callAnswer}
 
@@ -118,7 +118,7 @@ send-number m draws extras s k e =
     under (formTest s ∷ sendTests m (fateOf (plainOf s .options) (m .now) (m .kind) draws extras) (plainOf s) [])
     (omega arith, (omega arith, (omega arith, (modest (plainOf s .options) (m .now) draws extras (m .kind) .number-small, (omega arith, tt))))) k e
 
-pub number-under : (r : Refusal) → number r ≤ 33
+pub number-under : (r : Refusal) → refusalNumber r ≤ 33
 number-under BadLoss = omega arith
 number-under BadReplay = omega arith
 number-under MinOverMean = omega arith
@@ -134,7 +134,7 @@ number-under BadJournal = omega arith
 number-under NoJournalRoom = omega arith
 number-under TooFarBack = omega arith
 
-pub number-over : (r : Refusal) → number r ≡ 0 → ⊥
+pub number-over : (r : Refusal) → refusalNumber r ≡ 0 → ⊥
 number-over BadLoss e = omega arith
 number-over BadReplay e = omega arith
 number-over MinOverMean e = omega arith

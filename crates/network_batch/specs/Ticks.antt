@@ -5,10 +5,10 @@ use mathlib.Core.Bool.{cond}
 use mathlib.Core.List.{List, [], _∷_, _++_}
 use lib.Dec.{leb, eqb}
 use lib.ListN.{length, drop, getD}
-use Rattle.nights.specs.Record.{wordsOf}
-use Rattle.nights.specs.Net.{Letter, send, take, keep, isDue}
+use Rattle.nights.specs.Record.{recordWords}
+use Rattle.nights.specs.Net.{Letter, send, collect, keep, isDue}
 use Rattle.nights.specs.Draws.{Decided, decided}
-use Rattle.nights.specs.Journal.{Answer, done, refused}
+use Rattle.nights.specs.Tests.{Answer, done, refused}
 use Rattle.network.specs.declared.Network.{Network}
 use Rattle.network.specs.Forms.{plainOf, headOf, joined, letterOf}
 use Rattle.network.specs.Calls.{callAnswer, callNetwork, formAnswer}
@@ -74,16 +74,16 @@ module _ (h r sends draws extras : List ℕ) (now : ℕ) (out told : List ℕ) w
   taking done s d x =
       record {
         number = 0;
-        head = headWords (headOf (callNetwork (take now (length out)) s));
-        records = callNetwork (take now (length out)) s .words;
-        out = wordsOf (keep (isDue now) (plainOf s .pending)) ++ drop (length (wordsOf (keep (isDue now) (plainOf s .pending)))) out;
+        head = headWords (headOf (callNetwork (collect now (length out)) s));
+        records = callNetwork (collect now (length out)) s .words;
+        out = recordWords (keep (isDue now) (plainOf s .pending)) ++ drop (length (recordWords (keep (isDue now) (plainOf s .pending)))) out;
         told = d ∷ x ∷ length (keep (isDue now) (plainOf s .pending)) ∷ [];
       }
   taking (refused k) s d x = refusing k count
 
   unfoldable pub afterSends : Ran → Tick
   afterSends (stopped k place) = refusing k place
-  afterSends (all s d x) = taking (callAnswer (take now (length out)) s) s d x
+  afterSends (all s d x) = taking (callAnswer (collect now (length out)) s) s d x
 
   -- the network is tested first (23, at place 0); then that the list has at most 65,536 messages and is whole ones (24, at the place
   -- of the first that is over or broken)

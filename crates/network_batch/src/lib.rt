@@ -13,7 +13,7 @@ ghost use Rattle.nights.specs.Net.{send};
 ghost use Rattle.nights.specs.Draws.{decided};
 ghost use Rattle.network.specs.Answers.{sentOf, sending};
 ghost use Rattle.network.specs.Forms.{isFormed, joined};
-ghost use Rattle.network_fates.specs.Options.{plainOptions};
+ghost use Rattle.network_options.specs.Options.{plainOptions};
 ghost use Rattle.network.specs.Calls.{callAnswer, callNetwork};
 ghost use Rattle.network_batch.specs.Ticks.{letterAt, numberAt, sendsFrom, ticked, ranOf};
 
@@ -95,7 +95,7 @@ fn send_all(
         match answer {
             SendAnswer::Refused(refusal) => {
                 return Run {
-                    refusal: network_words::number_of(refusal),
+                    refusal: network_options::number_of(refusal),
                     place: i,
                     head: me,
                     draws: drawn,
@@ -164,7 +164,7 @@ pub fn tick(
     let taken = network::take_on(&mut work, run.head, now, out);
     let answer = taken.answer;
     match answer {
-        Counted::Refused(refusal) => at(network_words::number_of(refusal), count),
+        Counted::Refused(refusal) => at(network_options::number_of(refusal), count),
         Counted::Records(k) => {
             network_words::store(taken.head, head);
             *records = work;

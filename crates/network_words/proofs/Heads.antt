@@ -8,7 +8,7 @@ use borrow.Author.Tests.{le-leb, lt-leb}
 use lib.ListN.{length, drop, getD}
 use lib.Seq.{drop-cons, drop-length}
 use Rattle.chance.specs.Probability.{goodWord}
-use Rattle.nights.specs.Journal.{Answer, refused}
+use Rattle.nights.specs.Tests.{Answer, refused}
 use Rattle.network_words.specs.declared.Loaded.{Loaded}
 use Rattle.network_words.specs.Layout.{headFits, headIn, loaded, unloaded}
 use Rattle.network_words.specs.Calls.{ifHead}

@@ -10,17 +10,17 @@ use lib.ListN.{length, drop, getD}
 use denote.Floats.{passes}
 use Rattle.chance.specs.Probability.{goodWord}
 use Rattle.chance.proofs.ThereAndBack.{there-and-back}
-use Rattle.nights.specs.Net.{Options, Plain as Call, choose, goodOptions, effect}
-use Rattle.nights.specs.Journal.{done, refused, verdict, tests, optionTests}
+use Rattle.nights.specs.Net.{Options, Change, choose, goodOptions, effect}
+use Rattle.nights.specs.Tests.{done, refused, verdict, tests, optionTests}
 use Rattle.basis.proofs.Laws.{both}
 use Rattle.nights.proofs.Kept.{options-good}
 use Rattle.network_queue.proofs.Inserting.{length-recs}
 use Rattle.network.specs.declared.Head.{Head}
 use Rattle.network.specs.declared.Network.{Network}
-use Rattle.network_fates.specs.Options.{plainOptions, structOptions}
+use Rattle.network_options.specs.Options.{plainOptions, structOptions}
 use Rattle.network.specs.Forms.{plainOf, isFormed, headOf, joined}
 use Rattle.network.specs.Calls.{callAnswer, callNetwork}
-use Rattle.network_fates.proofs.OptionForms.{good-done}
+use Rattle.network_options.proofs.OptionForms.{good-done}
 use Rattle.network.proofs.Maps.{plain-formed}
 use Rattle.network.proofs.Calling.{call-well, stays, follows}
 use Rattle.network.proofs.Laws.{stays-formed}
@@ -32,7 +32,7 @@ use Rattle.network_words.proofs.Heads.{seven}
 pub formed-options : (s : Network) → isFormed s ≡ true → goodOptions (plainOptions (s .options)) ≡ true
 formed-options s f = options-good (plainOf s) (plain-formed s f)
 
-module _ (c : Call) (s : Network) (t : Head) (w : List ℕ) (e : joined t w ≡ callNetwork c s) where
+module _ (c : Change) (s : Network) (t : Head) (w : List ℕ) (e : joined t w ≡ callNetwork c s) where
   -- a refused call leaves the records
   pub same-words : (k : ℕ) → callAnswer c s ≡ refused k → w ≡ s .words
   same-words k a = ap (λ (x : Network). x .words) (e ∙ sym (stays s c k a))

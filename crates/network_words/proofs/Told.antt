@@ -7,13 +7,13 @@ use Prim.Native.Nat.{ℕ}
 use lib.ListN.{length, drop}
 use Rattle.basis.specs.Basis.{bit}
 use Rattle.nights.specs.Draws.{Decided}
-use Rattle.nights.specs.Journal.{Answer, done, refused}
-use Rattle.network_fates.specs.declared.Refusal.{Refusal}
+use Rattle.nights.specs.Tests.{Answer, done, refused}
+use Rattle.network_options.specs.declared.Refusal.{Refusal}
 use Rattle.network.specs.declared.SendAnswer.{SendAnswer}
 use Rattle.network.specs.declared.SendAnswer.the-variants.{Accepted, Refused as Unsent}
 use Rattle.network.specs.declared.Counted.{Counted}
 use Rattle.network.specs.declared.Counted.the-variants.{Records, Refused as Uncounted}
-use Rattle.network_fates.specs.Answers.{number}
+use Rattle.network_options.specs.Answers.{refusalNumber}
 use Rattle.network.specs.Answers.{Sending, sentOf, sending, Count, countedOf, counting}
 use Rattle.network.specs.Calls.{written}
 use Rattle.network.proofs.Calling.{answer-of}
@@ -64,7 +64,7 @@ module _ (h : List ℕ) (a : Answer) where
 -- ---- the answer by what a send tells
 
 module _ (t : SendAnswer) (a : Answer) (d : Decided) (e : sentOf t ≡ sending a d) where
-  pub sent-refused : (r : Refusal) → t ≡ Unsent r → a ≡ refused (number r)
+  pub sent-refused : (r : Refusal) → t ≡ Unsent r → a ≡ refused (refusalNumber r)
   sent-refused r q = sym (answer-of a d) ∙ ap (λ (z : Sending). z .answer) (sym e ∙ ap sentOf q)
 
   module _ (l r : Bool) (n x : ℕ) (q : t ≡ Accepted l r n x) where
@@ -85,7 +85,7 @@ counting-of done n = refl
 counting-of (refused k) n = refl
 
 module _ (t : Counted) (a : Answer) (n : ℕ) (e : countedOf t ≡ counting a n) where
-  pub taken-refused : (r : Refusal) → t ≡ Uncounted r → a ≡ refused (number r)
+  pub taken-refused : (r : Refusal) → t ≡ Uncounted r → a ≡ refused (refusalNumber r)
   taken-refused r q = sym (counting-of a n) ∙ ap (λ (z : Count). z .answer) (sym e ∙ ap countedOf q)
 
   module _ (k : ℕ) (q : t ≡ Records k) where

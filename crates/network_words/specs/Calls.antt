@@ -3,9 +3,9 @@
 use Prim.Native.Nat.{ℕ}
 use mathlib.Core.Bool.{cond}
 use mathlib.Core.List.{List, [], _∷_}
-use Rattle.nights.specs.Net.{Plain as Call, lostBy, replayedBy}
+use Rattle.nights.specs.Net.{Change, lostBy, replayedBy}
 use Rattle.nights.specs.Draws.{Decided}
-use Rattle.nights.specs.Journal.{Answer, done, refused}
+use Rattle.nights.specs.Tests.{Answer, done, refused}
 use Rattle.network.specs.Forms.{headOf}
 use Rattle.network.specs.Calls.{callAnswer, callNetwork, formAnswer, listAnswer}
 use Rattle.network_words.specs.Layout.{headFits, headWords, networkIn}
@@ -24,13 +24,13 @@ unfoldable pub ifHead : List ℕ → Answer → Answer
 ifHead h a = cond (headFits h) a (refused 23)
 
 -- a send, a take or a change of options
-abbrev pub answerIn : Call → List ℕ → List ℕ → Answer
+abbrev pub answerIn : Change → List ℕ → List ℕ → Answer
 answerIn c h r = ifHead h (callAnswer c (networkIn h r))
 
-abbrev pub headAfter : Call → List ℕ → List ℕ → List ℕ
+abbrev pub headAfter : Change → List ℕ → List ℕ → List ℕ
 headAfter c h r = onDone (answerIn c h r) (headWords (headOf (callNetwork c (networkIn h r)))) h
 
-abbrev pub recordsAfter : Call → List ℕ → List ℕ → List ℕ
+abbrev pub recordsAfter : Change → List ℕ → List ℕ → List ℕ
 recordsAfter c h r = onDone (answerIn c h r) (callNetwork c (networkIn h r) .words) r
 
 -- what a send tells: whether it was lost, whether it was replayed, the draws and the extras used

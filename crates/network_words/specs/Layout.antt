@@ -9,7 +9,7 @@ use Rattle.basis.specs.Basis.{bit}
 use Rattle.nights.specs.Net.{Options}
 use Rattle.network.specs.declared.Head.{Head}
 use Rattle.network.specs.declared.Network.{Network}
-use Rattle.network_fates.specs.Options.{plainOptions, structOptions, perfectOptions}
+use Rattle.network_options.specs.Options.{plainOptions, structOptions, perfectOptions}
 use Rattle.network.specs.Forms.{joined}
 use Rattle.network_words.specs.declared.Loaded.{Loaded}
 

@@ -7,22 +7,22 @@
 use network::Counted;
 use network::Head;
 use network::SendAnswer;
-use network_fates::NetworkOptions;
-use network_fates::Refusal;
+use network_options::NetworkOptions;
+use network_options::Refusal;
 ghost use mathlib.Core.Path.{_≡_};
 ghost use mathlib.Core.Bool.{true, false, not};
 ghost use mathlib.Core.List.{[], _∷_};
 ghost use Prim.Native.Nat.{ℕ};
 ghost use lib.Dec.{eqb};
 ghost use lib.ListN.{length, drop, replicate};
-ghost use Rattle.nights.specs.Record.{wordsOf};
+ghost use Rattle.nights.specs.Record.{recordWords};
 ghost use Rattle.basis.specs.Basis.{bit};
-ghost use Rattle.nights.specs.Net.{keep, isDue, goodOptions, send, take, choose};
+ghost use Rattle.nights.specs.Net.{keep, isDue, goodOptions, send, collect, choose};
 ghost use Rattle.nights.specs.Draws.{decided};
-ghost use Rattle.nights.specs.Journal.{verdict, optionTests};
-ghost use Rattle.network_fates.specs.Answers.{number};
+ghost use Rattle.nights.specs.Tests.{verdict, optionTests};
+ghost use Rattle.network_options.specs.Answers.{refusalNumber};
 ghost use Rattle.network.specs.Forms.{plainOf, letterOf};
-ghost use Rattle.network_fates.specs.Options.{plainOptions};
+ghost use Rattle.network_options.specs.Options.{plainOptions};
 ghost use Rattle.network.specs.Calls.{written};
 ghost use Rattle.network_words.specs.Layout.{headWords, loaded, optionsFrom, networkIn, unloaded};
 ghost use Rattle.network_words.specs.Calls.{numberOf, onDone, answerIn, headAfter, recordsAfter, sendTold, formIn, listIn};
@@ -73,7 +73,7 @@ pub struct Loaded {
 
 // A refusal's number.
 pub fn number_of(refusal: Refusal) -> u64
-    ensures { λ r. ⌜ r ≡ number refusal ⌝ }
+    ensures { λ r. ⌜ r ≡ refusalNumber refusal ⌝ }
 {
     match refusal {
         Refusal::BadLoss => 20,
@@ -349,11 +349,11 @@ pub fn take_due(
     out: &mut [u64],
     told: &mut [u64; 1],
 ) -> u64
-    ensures answer { λ r. ⌜ r ≡ numberOf (answerIn (take now (length (out .entry .now))) (head .entry .now) (records .entry .now)) ⌝ }
-    ensures head { λ _. ⌜ head .exit .now ≡ headAfter (take now (length (out .entry .now))) (head .entry .now) (records .entry .now) ⌝ }
-    ensures records { λ _. ⌜ records .exit .now ≡ recordsAfter (take now (length (out .entry .now))) (head .entry .now) (records .entry .now) ⌝ }
-    ensures out { λ _. ⌜ out .exit .now ≡ written (answerIn (take now (length (out .entry .now))) (head .entry .now) (records .entry .now)) (wordsOf (keep (isDue now) (plainOf (networkIn (head .entry .now) (records .entry .now)) .pending))) (out .entry .now) ⌝ }
-    ensures told { λ _. ⌜ told .exit .now ≡ onDone (answerIn (take now (length (out .entry .now))) (head .entry .now) (records .entry .now)) (length (keep (isDue now) (plainOf (networkIn (head .entry .now) (records .entry .now)) .pending)) ∷ []) (told .entry .now) ⌝ }
+    ensures answer { λ r. ⌜ r ≡ numberOf (answerIn (collect now (length (out .entry .now))) (head .entry .now) (records .entry .now)) ⌝ }
+    ensures head { λ _. ⌜ head .exit .now ≡ headAfter (collect now (length (out .entry .now))) (head .entry .now) (records .entry .now) ⌝ }
+    ensures records { λ _. ⌜ records .exit .now ≡ recordsAfter (collect now (length (out .entry .now))) (head .entry .now) (records .entry .now) ⌝ }
+    ensures out { λ _. ⌜ out .exit .now ≡ written (answerIn (collect now (length (out .entry .now))) (head .entry .now) (records .entry .now)) (recordWords (keep (isDue now) (plainOf (networkIn (head .entry .now) (records .entry .now)) .pending))) (out .entry .now) ⌝ }
+    ensures told { λ _. ⌜ told .exit .now ≡ onDone (answerIn (collect now (length (out .entry .now))) (head .entry .now) (records .entry .now)) (length (keep (isDue now) (plainOf (networkIn (head .entry .now) (records .entry .now)) .pending)) ∷ []) (told .entry .now) ⌝ }
 {
     let loaded = load(head);
     if !loaded.fits {
@@ -380,7 +380,7 @@ pub fn in_flight(
     told: &mut [u64; 1],
 ) -> u64
     ensures answer { λ r. ⌜ r ≡ numberOf (listIn (now (head .entry)) (now (records .entry)) (length (now (out .entry)))) ⌝ }
-    ensures out { λ _. ⌜ now (out .exit) ≡ written (listIn (now (head .entry)) (now (records .entry)) (length (now (out .entry)))) (wordsOf (plainOf (networkIn (now (head .entry)) (now (records .entry))) .pending)) (now (out .entry)) ⌝ }
+    ensures out { λ _. ⌜ now (out .exit) ≡ written (listIn (now (head .entry)) (now (records .entry)) (length (now (out .entry)))) (recordWords (plainOf (networkIn (now (head .entry)) (now (records .entry))) .pending)) (now (out .entry)) ⌝ }
     ensures told { λ _. ⌜ now (told .exit) ≡ onDone (listIn (now (head .entry)) (now (records .entry)) (length (now (out .entry)))) (length (plainOf (networkIn (now (head .entry)) (now (records .entry))) .pending) ∷ []) (now (told .entry)) ⌝ }
 {
     let loaded = load(head);

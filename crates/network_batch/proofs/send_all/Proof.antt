@@ -5,13 +5,13 @@ use native.Mathlib.Omega.{arith}
 use borrow.Author.Needs.{needs}
 use mathlib.Core.List.{List}
 use lib.ListN.{length, take, drop, getD}
-use Rattle.nights.specs.Net.{Plain as Call}
+use Rattle.nights.specs.Net.{Change}
 use Rattle.network.specs.declared.Network.{Network}
 use Rattle.network.specs.Forms.{joined}
 use Rattle.network.specs.Calls.{callAnswer, callNetwork}
 use Rattle.network.specs.Answers.{sentOf, sending}
 use Rattle.nights.specs.Draws.{Decided}
-use Rattle.nights.specs.Journal.{done}
+use Rattle.nights.specs.Tests.{done}
 use Rattle.network_words.proofs.Told.{sent-refused, sent-done, sent-told}
 use Rattle.network_batch.specs.Ticks.{stopped, sendsFrom, drawnBy}
 use Rattle.network_batch.proofs.Sending.{Whole, callAt, rest, within-left, stays-whole, turn-goes, turn-stops, all-sent, ran-stopped}
@@ -41,7 +41,7 @@ start c = at c .before .before .before .before
 abbrev state : tie.After-send-at Inv-loop μ-loop → Network
 state c = joined (at c .loop .me) (at c .loop .records)
 
-abbrev call : tie.After-send-at Inv-loop μ-loop → Call
+abbrev call : tie.After-send-at Inv-loop μ-loop → Change
 call c = callAt (start c .args .sends .now) (start c .args .draws .now) (start c .args .extras .now) (at c .loop .i) (at c .loop .drawn) (at c .loop .added)
 
 abbrev used : tie.After-send-at Inv-loop μ-loop → Decided

@@ -5,8 +5,8 @@ use mathlib.Core.Bool.{Bool, true, false}
 use native.Mathlib.Omega.{arith}
 use borrow.Author.Tests.{not-true, not-false}
 use lib.ListN.{length}
-use Rattle.nights.specs.Net.{Plain as Call, take as takes}
-use Rattle.nights.specs.Journal.{done}
+use Rattle.nights.specs.Net.{Change, collect}
+use Rattle.nights.specs.Tests.{done}
 use Rattle.network.specs.declared.Head.{Head}
 use Rattle.network.specs.declared.Network.{Network}
 use Rattle.network.specs.Forms.{joined, isFormed}
@@ -92,8 +92,8 @@ sent y = then y .before .before
 abbrev state : tie.After-take-on → Network
 state y = joined (sent y .send-all .result .head) (sent y .send-all .last .0)
 
-abbrev call : tie.After-take-on → Call
-call y = takes (start (sent y) .args .now) (length (start (sent y) .args .out .now))
+abbrev call : tie.After-take-on → Change
+call y = collect (start (sent y) .args .now) (length (start (sent y) .args .out .now))
 
 accepted : (c : tie.After-answer2) → let y = c .before .before .before .before in callAnswer (call y) (state y) ≡ done
 accepted c = taken-done _ _ _ (c .before .before .before .before .take-on .ensures .1 .0) _ (c .answer2 .given .1)

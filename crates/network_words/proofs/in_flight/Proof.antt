@@ -6,10 +6,10 @@ use Prim.Native.Nat.{ℕ, _*_}
 use native.Mathlib.Omega.{arith}
 use borrow.Author.Tests.{not-true, not-false}
 use lib.ListN.{length, take, getD}
-use Rattle.nights.specs.Record.{wordsOf, recs}
-use Rattle.nights.specs.Journal.{Answer}
-use Rattle.nights.proofs.Undo.{length-wordsOf}
-use Rattle.network_queue.proofs.Inserting.{length-recs, wordsOf-recs}
+use Rattle.nights.specs.Record.{recordWords, recs}
+use Rattle.nights.specs.Tests.{Answer}
+use Rattle.nights.proofs.Undo.{length-recordWords}
+use Rattle.network_queue.proofs.Inserting.{length-recs, recordWords-recs}
 use Rattle.network.specs.declared.Head.{Head}
 use Rattle.network.specs.declared.Network.{Network}
 use Rattle.network.specs.Forms.{joined, isFormed}
@@ -106,8 +106,8 @@ returns-4 c =
     let n = getD (b .args .head .now) 5 0 in
     let o = b .args .out .now in
     let d : Done (listing b) = read-finished _ (listAnswer (whole b) (length o)) (fits (e .before .before .before)) (list-well (whole b) (length o) (formed e) (x .if3 .left)) in
-    let w : wordsOf (recs r 0 n) ≡ take (n * 8) r = wordsOf-recs r 0 n (omega (arith, small (whole b) (formed e), e .before .before .whole .ensures)) in
-    let m : length (wordsOf (recs r 0 n)) ≡ n * 8 = omega (arith, length-wordsOf (recs r 0 n), length-recs r 0 n) in
+    let w : recordWords (recs r 0 n) ≡ take (n * 8) r = recordWords-recs r 0 n (omega (arith, small (whole b) (formed e), e .before .before .whole .ensures)) in
+    let m : length (recordWords (recs r 0 n)) ≡ n * 8 = omega (arith, length-recordWords (recs r 0 n), length-recs r 0 n) in
     (d .number, (rw (sym w, sym m) at (c .before .before .before .copy-out .ensures) ∙ d .out _ _, ap (λ (k : ℕ). k ∷ []) (sym (length-recs r 0 n)) ∙ d .words _ _))
 
 pub in-flight-spec : {M : Type 1} → statement M

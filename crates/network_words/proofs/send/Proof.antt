@@ -2,13 +2,13 @@
 use mathlib.Core.Path.{_≡_, ap, _∙_}
 use mathlib.Core.Bool.{true, false}
 use borrow.Author.Tests.{not-true, not-false}
-use Rattle.nights.specs.Net.{Plain as Call, send as sends}
+use Rattle.nights.specs.Net.{Change, send as sends}
 use Rattle.nights.specs.Draws.{Decided, decided}
-use Rattle.nights.specs.Journal.{Answer, done}
+use Rattle.nights.specs.Tests.{Answer, done}
 use Rattle.network.specs.declared.Head.{Head}
 use Rattle.network.specs.declared.Network.{Network}
 use Rattle.network.specs.Answers.{sentOf, sending}
-use Rattle.network_fates.specs.Options.{plainOptions}
+use Rattle.network_options.specs.Options.{plainOptions}
 use Rattle.network.specs.Forms.{headOf, joined, letterOf}
 use Rattle.network.specs.Calls.{callAnswer, callNetwork}
 use Rattle.network_words.specs.Layout.{headFits, headWords, networkIn}
@@ -24,7 +24,7 @@ use Rattle.network_words.proofs.send.Tie as tie
 abbrev whole : tie.Start → Network
 whole c = networkIn (c .args .head .now) (c .args .records .now)
 
-abbrev call : tie.Start → Call
+abbrev call : tie.Start → Change
 call c = sends (letterOf (c .args .now) (c .args .sort) (c .args .origin) (c .args .to) (c .args .kind) (c .args .handle)) (c .args .draws .now) (c .args .extras .now)
 
 abbrev answer : tie.Start → Answer

@@ -5,7 +5,7 @@ use mathlib.Core.List.{[]}
 use borrow.Author.Needs.{needs}
 use borrow.Author.Tests.{not-true, not-false}
 use Rattle.nights.specs.Net.{Options, choose}
-use Rattle.nights.specs.Journal.{Answer, done, verdict, optionTests}
+use Rattle.nights.specs.Tests.{Answer, done, verdict, optionTests}
 use Rattle.network.specs.declared.Head.{Head}
 use Rattle.network.specs.declared.Network.{Network}
 use Rattle.network.specs.Forms.{joined, isFormed}

@@ -5,9 +5,9 @@ use mathlib.Core.List.{List, [], _∷_}
 use Prim.Native.Nat.{ℕ}
 use borrow.Author.Tests.{not-true, not-false}
 use lib.ListN.{length}
-use Rattle.nights.specs.Record.{Record, wordsOf}
-use Rattle.nights.specs.Net.{Plain as Call, take as takes, keep, isDue}
-use Rattle.nights.specs.Journal.{Answer, done}
+use Rattle.nights.specs.Record.{Record, recordWords}
+use Rattle.nights.specs.Net.{Change, collect, keep, isDue}
+use Rattle.nights.specs.Tests.{Answer, done}
 use Rattle.network.specs.declared.Head.{Head}
 use Rattle.network.specs.declared.Network.{Network}
 use Rattle.network.specs.Answers.{countedOf, counting}
@@ -26,8 +26,8 @@ use Rattle.network_words.proofs.take_due.Tie as tie
 abbrev whole : tie.Start → Network
 whole c = networkIn (c .args .head .now) (c .args .records .now)
 
-abbrev call : tie.Start → Call
-call c = takes (c .args .now) (length (c .args .out .now))
+abbrev call : tie.Start → Change
+call c = collect (c .args .now) (length (c .args .out .now))
 
 abbrev answer : tie.Start → Answer
 answer c = answerIn (call c) (c .args .head .now) (c .args .records .now)
@@ -57,12 +57,12 @@ tells c =
     c .take-in .ensures .1 .0
     ∙ ap (λ (h : Head). counting (callAnswer (call (start c)) (joined h (start c .args .records .now))) (length (dueOf (start c) (joined h (start c .args .records .now))))) (head-is c)
 
-put-out : (c : tie.After-take-in) → c .take-in .last .1 .1 .1 .0 ≡ written (answer (start c)) (wordsOf (dueOf (start c) (whole (start c)))) (start c .args .out .now)
+put-out : (c : tie.After-take-in) → c .take-in .last .1 .1 .1 .0 ≡ written (answer (start c)) (recordWords (dueOf (start c) (whole (start c)))) (start c .args .out .now)
 put-out c =
     let b = start c in
     rw (a-head (b .args .head .now) (callAnswer (call b) (whole b)) (fits (else-of c)))
     (c .take-in .ensures .1 .1
-    ∙ ap (λ (h : Head). written (callAnswer (call b) (joined h (b .args .records .now))) (wordsOf (dueOf b (joined h (b .args .records .now)))) (b .args .out .now)) (head-is c))
+    ∙ ap (λ (h : Head). written (callAnswer (call b) (joined h (b .args .records .now))) (recordWords (dueOf b (joined h (b .args .records .now)))) (b .args .out .now)) (head-is c))
 
 accepted : (c : tie.After-answer2) → callAnswer (call (start (c .before .before .before .before))) (whole (start (c .before .before .before .before))) ≡ done
 accepted c = taken-done _ _ _ (tells (c .before .before .before .before)) _ (c .answer2 .given .1)
