@@ -9,8 +9,18 @@ use Rattle.nights.specs.Tests.{done, refused, ifDone, verdict, tests}
 use Rattle.network_queue.specs.Packed.{packed}
 use Rattle.network_form.specs.declared.Head.{Head}
 use Rattle.network_form.specs.Forms.{plainIn, headOf, formedIn}
-use Rattle.network_form.specs.Calls.{answerIn, headAfter, recordsAfter}
+use Rattle.network_form.specs.Calls.{answerIn, headAfter, recordsAfter, formAnswer}
 
+-- counting
+pub form-ill : (h : Head) (w : List ℕ) → formedIn h w ≡ false → formAnswer h w ≡ refused 23
+unfolding formAnswer verdict
+form-ill h w e = rw e
+
+pub form-well : (h : Head) (w : List ℕ) → formedIn h w ≡ true → formAnswer h w ≡ done
+unfolding formAnswer verdict
+form-well h w e = rw e
+
+-- a send, a take or a change of options
 module _ (h : Head) (w : List ℕ) (c : Change) where
   pub call-ill : formedIn h w ≡ false → answerIn c h w ≡ refused 23
   unfolding answerIn verdict

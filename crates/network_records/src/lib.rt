@@ -1,9 +1,9 @@
 // The test of the records of a network, over words that the caller lends: each record good, in delivery order, none numbered twice, and
 // zeros behind them.
-use network_queue::Record;
 use network_queue::LAST_KIND;
 use network_queue::LAST_SORT;
 use network_queue::RECORD_SIZE;
+use network_queue::Record;
 use network_queue::WORDS;
 ghost use mathlib.Core.Path.{_≡_};
 ghost use Prim.Native.Nat.{_-_, _*_, _≤_};

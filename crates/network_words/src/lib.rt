@@ -5,8 +5,8 @@
 // messages are faulted (0 or 1), pending, seq, sent, delivered, lost, replayed, delayed. Its records are 1,024: eight words for each
 // pending message, in the order of delivery, and zeros behind them.
 use network_form::Head;
-use network_options::number_of;
 use network_options::NetworkOptions;
+use network_options::number_of;
 use network_queue::WORDS;
 use network_send::Letter;
 use network_send::SendAnswer;
@@ -248,10 +248,14 @@ pub fn send(
     extras: &[u64],
     told: &mut [u64; 4],
 ) -> u64
-    ensures answer { λ r. ⌜ r ≡ sendRows (now (head .entry)) (now (records .entry)) (plainLetter letter) (now (draws .entry)) (now (extras .entry)) (now (told .entry)) .number ⌝ }
-    ensures head { λ _. ⌜ now (head .exit) ≡ sendRows (now (head .entry)) (now (records .entry)) (plainLetter letter) (now (draws .entry)) (now (extras .entry)) (now (told .entry)) .head ⌝ }
-    ensures records { λ _. ⌜ now (records .exit) ≡ sendRows (now (head .entry)) (now (records .entry)) (plainLetter letter) (now (draws .entry)) (now (extras .entry)) (now (told .entry)) .records ⌝ }
-    ensures told { λ _. ⌜ now (told .exit) ≡ sendRows (now (head .entry)) (now (records .entry)) (plainLetter letter) (now (draws .entry)) (now (extras .entry)) (now (told .entry)) .told ⌝ }
+    ensures answer { λ r. ⌜ r ≡ sendRows (now (head .entry)) (now (records .entry)) (plainLetter letter)
+        (now (draws .entry)) (now (extras .entry)) (now (told .entry)) .number ⌝ }
+    ensures head { λ _. ⌜ now (head .exit) ≡ sendRows (now (head .entry)) (now (records .entry)) (plainLetter letter)
+        (now (draws .entry)) (now (extras .entry)) (now (told .entry)) .head ⌝ }
+    ensures records { λ _. ⌜ now (records .exit) ≡ sendRows (now (head .entry)) (now (records .entry)) (plainLetter letter)
+        (now (draws .entry)) (now (extras .entry)) (now (told .entry)) .records ⌝ }
+    ensures told { λ _. ⌜ now (told .exit) ≡ sendRows (now (head .entry)) (now (records .entry)) (plainLetter letter)
+        (now (draws .entry)) (now (extras .entry)) (now (told .entry)) .told ⌝ }
 {
     let loaded = load(head);
     if !loaded.fits {
@@ -338,11 +342,7 @@ pub fn in_flight(
 }
 
 // How many messages are in flight is told.
-pub fn pending(
-    head: &[u64; HEAD_WORDS],
-    records: &[u64; WORDS],
-    told: &mut [u64; 1],
-) -> u64
+pub fn pending(head: &[u64; HEAD_WORDS], records: &[u64; WORDS], told: &mut [u64; 1]) -> u64
     ensures answer { λ r. ⌜ r ≡ countRows (now (head .entry)) (now (records .entry)) (now (told .entry)) .number ⌝ }
     ensures told { λ _. ⌜ now (told .exit) ≡ countRows (now (head .entry)) (now (records .entry)) (now (told .entry)) .told ⌝ }
 {
