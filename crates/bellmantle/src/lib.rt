@@ -1,7 +1,6 @@
 // The boundary for the host: our calls over numbers and lent words, for a program in another language to link. A state and an answer are
 // lent words; a call returns 0, or the number of its refusal, and on a refusal no lent word changes. include/bellmantle.h declares each
 // function, each word of each layout and each number.
-use script::Script;
 ghost use mathlib.Core.Path.{_≡_};
 ghost use mathlib.Core.Bool.{not};
 ghost use mathlib.Core.List.{[], _∷_};
@@ -19,12 +18,12 @@ ghost use Rattle.network.specs.Calls.{written};
 ghost use Rattle.network_words.specs.Layout.{optionsFrom, networkIn};
 ghost use Rattle.network_words.specs.Calls.{numberOf, onDone, answerIn, headAfter, recordsAfter, sendTold, formIn, listIn};
 ghost use Rattle.network_batch.specs.Ticks.{ticked};
-ghost use Rattle.journal.specs.Calls.{sends, takes, chooses, markAnswer, markWords};
+ghost use Rattle.journal_calls.specs.Calls.{sends, takes, chooses, markAnswer, markWords};
 ghost use Rattle.journal_words.specs.Calls.{journalAnswer, journalHead, journalRecords, journalWords};
 ghost use Rattle.plants_words.specs.Calls.{newAnswer, newWords, applyAnswer, applyWords, nonceWords, verdictAnswer, verdictWords, coreAnswer, coreWords, coreAnswered};
 ghost use Rattle.properties.specs.Calls.{freshAnswer, freshWords, rebootAnswer, rebootWords, tickAnswer, tickWords, endAnswer};
 ghost use Rattle.properties_words.specs.Told.{answerNumber, toldBy};
-ghost use Rattle.bellmantle.specs.Packing.{packed};
+ghost use Rattle.script_packed.specs.Packing.{answerWord};
 
 // ---- Fault scripts
 
@@ -32,14 +31,10 @@ ghost use Rattle.bellmantle.specs.Packing.{packed};
 // events there are or, for a refusal, its number times 2^32 and its line.
 #[no_mangle]
 pub extern "C" fn bellmantle_parse_script(text: &[u8], events: &mut [u64]) -> u64
-    ensures answer { λ r. ⌜ r ≡ packed (answerOf (now (text .entry)) (length (now (events .entry)))) ⌝ }
+    ensures answer { λ r. ⌜ r ≡ answerWord (answerOf (now (text .entry)) (length (now (events .entry)))) ⌝ }
     ensures words { λ r. ⌜ now (events .exit) ≡ wordsAfter (now (text .entry)) (now (events .entry)) ⌝ }
 {
-    match script::parse_script(text, events) {
-        Script::Events(count) => count as u64,
-        Script::Refused(refusal, line) => script::refusal_number(refusal) * 0x1_0000_0000
-            + line as u64,
-    }
+    script_packed::parse_script(text, events)
 }
 
 // ---- Network
@@ -291,7 +286,7 @@ pub extern "C" fn bellmantle_journal_rewind(
 
 // Fresh plants.
 #[no_mangle]
-pub extern "C" fn bellmantle_plants_new(n: u64, words: &mut [u64; 49]) -> u64
+pub extern "C" fn bellmantle_plants_new(n: u64, words: &mut [u64; plants_words::WORDS]) -> u64
     ensures answer { λ r. ⌜ r ≡ newAnswer n ⌝ }
     ensures words { λ _. ⌜ now (words .exit) ≡ newWords n (now (words .entry)) ⌝ }
 {
@@ -301,7 +296,7 @@ pub extern "C" fn bellmantle_plants_new(n: u64, words: &mut [u64; 49]) -> u64
 // Injects a fault at a tick; a reboot's nonce is told.
 #[no_mangle]
 pub extern "C" fn bellmantle_plants_apply(
-    words: &mut [u64; 49],
+    words: &mut [u64; plants_words::WORDS],
     tick: u64,
     fault: u64,
     id: u64,
@@ -318,7 +313,7 @@ pub extern "C" fn bellmantle_plants_apply(
 // What becomes of a message that is due at plant `to`: its verdict is told.
 #[no_mangle]
 pub extern "C" fn bellmantle_plants_verdict(
-    words: &[u64; 49],
+    words: &[u64; plants_words::WORDS],
     sort: u64,
     id: u64,
     to: u64,
@@ -333,11 +328,11 @@ pub extern "C" fn bellmantle_plants_verdict(
 // Chooses the core of plants that stays up; `full` is no for 0 and yes otherwise.
 #[no_mangle]
 pub extern "C" fn bellmantle_plants_choose_core(
-    words: &mut [u64; 49],
+    words: &mut [u64; plants_words::WORDS],
     recovering: &[u64],
     picks: &[u64],
     full: u64,
-    told: &mut [u64; 17],
+    told: &mut [u64; plants_words::CORE_WORDS],
 ) -> u64
     ensures answer { λ r. ⌜ r ≡ coreAnswer (now (words .entry)) (now (recovering .entry)) (now (picks .entry)) full ⌝ }
     ensures words { λ _. ⌜ now (words .exit) ≡ coreWords (now (words .entry)) (now (recovering .entry)) (now (picks .entry)) full ⌝ }

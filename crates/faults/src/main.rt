@@ -1,63 +1,25 @@
 // The program `faults`: a fault script on standard input, what it says on standard output. What is
 // written is script_report's to say; here it is only read and written.
+use input::Input;
 use script_report::Reported;
 ghost use mathlib.Core.Path.{_≡_};
+ghost use Prim.Native.Nat.{_+_};
 ghost use lib.ListN.{length};
-ghost use Rattle.faults.specs.Input.{Moved, Filled};
+ghost use Rattle.script.specs.Scripts.{longest};
 
-// What one read did.
-enum Got {
-    Bytes(usize),
-    End,
-    Failed,
-}
+// The longest script and one byte more, so that a longer one is seen to be.
+const TEXT: usize = script::LONGEST + 1;
 
-// What was read in all.
-enum Input {
-    Bytes(usize),
-    Unreadable,
-}
-
-// One read to the front of buf, which a caller makes only where buf has room.
-fn read_some(fd: i32, buf: &mut [u8]) -> Got
-    ensures { λ r. ⌜ Moved r (length (now (buf .exit))) ⌝ }
+// Room for the text. The contract gives its length alone, which is all that lending it asks.
+fn room() -> [u8; TEXT]
+    ensures { λ r. ⌜ longest + 1 ≡ length r ⌝ }
 {
-    let got = libc::read(fd, buf);
-    if got < 0 {
-        return Got::Failed;
-    }
-    let n = io::count(got, buf);
-    if n == 0 {
-        return Got::End;
-    }
-    Got::Bytes(n)
-}
-
-// Reads to the end of the input, or until buf is full.
-fn read_all(fd: i32, buf: &mut [u8]) -> Input
-    ensures { λ r. ⌜ Filled r (length (now (buf .exit))) ⌝ }
-{
-    let mut done: usize = 0;
-    while done < buf.len() {
-        match read_some(fd, &mut buf[done..]) {
-            Got::Bytes(n) => done += n,
-            Got::End => return Input::Bytes(done),
-            Got::Failed => return Input::Unreadable,
-        }
-    }
-    Input::Bytes(done)
-}
-
-// Room for a script and one byte more, so that a longer one is seen to be.
-fn room() -> [u8; 65537]
-    ensures { λ r. ⌜ 65537 ≡ length r ⌝ }
-{
-    [0; 65537]
+    [0; TEXT]
 }
 
 fn main() {
     let mut text = room();
-    let Input::Bytes(length) = read_all(libc::STDIN_FILENO, &mut text) else {
+    let Input::Bytes(length) = input::read_all(libc::STDIN_FILENO, &mut text) else {
         os::fail(b"faults: standard input");
         return;
     };

@@ -9,20 +9,20 @@ use borrow.Author.Tests.{le-leb}
 use lib.Dec.{leb}
 use lib.ListN.{length, drop, replicate, replicate-append-replicate}
 use lib.Seq.{drop-at}
-use Rattle.nights.specs.Record.{Record, wordsOf, recs}
-use Rattle.nights.specs.Net.{capacity, Network as Plain, keep, insertAll, wellFormed}
+use Rattle.nights.specs.Record.{Record, recordWords, recs}
+use Rattle.nights.specs.Net.{capacity, Plain, keep, insertAll, wellFormed}
 use Rattle.nights.specs.Journal.{undone, unsend, untake, checked}
 use Rattle.nights.proofs.Order.{length-split, length-insertAll}
-use Rattle.nights.proofs.Undo.{length-wordsOf}
+use Rattle.nights.proofs.Undo.{length-recordWords}
 use Rattle.basis.proofs.Laws.{both}
 use Rattle.network_queue.specs.Packed.{packed}
 use Rattle.network_queue.specs.Places.{insertedAll}
 use Rattle.network_queue.proofs.Inserting.{length-recs}
 use Rattle.network_queue.proofs.Packing.{unpacked, repacked, packed-zeros, packed-insertAll}
-use Rattle.network_fates.specs.declared.NetworkOptions.{NetworkOptions}
+use Rattle.network_options.specs.declared.NetworkOptions.{NetworkOptions}
 use Rattle.network.specs.declared.Network.{Network}
 use Rattle.network.specs.Forms.{plainOf, isFormed}
-use Rattle.network.proofs.Maps.{small}
+use Rattle.network.proofs.Structs.{small}
 use Rattle.journal_undo.specs.Undone.{sealedOf, upTo}
 
 right-true : (a b : Bool) → b ≡ true → a && b ≡ a
@@ -65,13 +65,13 @@ module _ (s : Network) (f : isFormed s ≡ true) (long : length (s .words) ≡ 1
   unfolding packed
   behind =
       ap (λ (x : List ℕ). drop (s .pending * 8) x) words-are
-      ∙ (drop-at (wordsOf held) _ (s .pending * 8) (omega (arith, length-wordsOf held, held-length))
+      ∙ (drop-at (recordWords held) _ (s .pending * 8) (omega (arith, length-recordWords held, held-length))
       ∙ ap (λ (k : ℕ). replicate {A = ℕ} (1024 - 8 * k) 0) held-length)
 
   -- ---- a send
 
   module _ (q l r d m : ℕ) (w : List ℕ) (c : m ≡ length (keep (upTo q) held))
-      (e : w ≡ wordsOf (keep (upTo q) held) ++ (replicate ((s .pending - m) * 8) 0 ++ drop (s .pending * 8) (s .words))) where
+      (e : w ≡ recordWords (keep (upTo q) held) ++ (replicate ((s .pending - m) * 8) 0 ++ drop (s .pending * 8) (s .words))) where
     few : m ≤ s .pending
     few = omega (arith, c, length-split (upTo q) held, held-length)
 

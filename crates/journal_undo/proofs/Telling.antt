@@ -10,14 +10,15 @@ use lib.Dec.{leb, eqb}
 use lib.ListN.{length, getD}
 use Rattle.chance.specs.Probability.{goodWord}
 use Rattle.nights.specs.Record.{recs}
-use Rattle.nights.specs.Net.{capacity, Network as Plain, goodOptions, wellFormed}
-use Rattle.nights.specs.Journal.{done, refused, Undone as Told, misfit, undone, unsend, untake, unchoose, undoAs, undoOne, checked}
+use Rattle.nights.specs.Net.{capacity, Plain, goodOptions, wellFormed}
+use Rattle.nights.specs.Tests.{done, refused}
+use Rattle.nights.specs.Journal.{Undone as Told, misfit, undone, unsend, untake, unchoose, undoAs, undoOne, checked}
 use Rattle.network.specs.declared.Network.{Network}
 use Rattle.network.specs.Forms.{isFormed}
-use Rattle.network.specs.Answers.{Count, counting}
-use Rattle.network.specs.Calls.{formAnswer}
-use Rattle.network.proofs.Calling.{form-ill, form-well}
-use Rattle.network_fates.proofs.Failing.{first, second}
+use Rattle.network_take.specs.Takes.{Count, counting}
+use Rattle.network_form.specs.Calls.{formAnswer}
+use Rattle.network.proofs.Structs.{form-ill, form-well}
+use Rattle.nights.proofs.Failing.{first, second}
 use Rattle.journal_undo.specs.declared.Undone.{Undone}
 use Rattle.journal_undo.specs.Undone.{undoneOf, sealedOf}
 

@@ -8,15 +8,15 @@ use journal_ledger::SEND;
 use journal_ledger::SEND_WORDS;
 use journal_ledger::TAKE;
 use journal_ledger::TAKE_WORDS;
-use network::Counted;
+use network_take::Counted;
 use network::Network;
-use network_fates::NetworkOptions;
+use network_options::NetworkOptions;
 ghost use mathlib.Core.Path.{_≡_};
 ghost use mathlib.Core.Bool.{true, false};
 ghost use mathlib.Core.List.{_++_};
 ghost use Prim.Native.Nat.{_+_, _-_, _*_, _≤_};
 ghost use lib.ListN.{length, drop, replicate};
-ghost use Rattle.nights.specs.Record.{wordsOf, recordAt, recs};
+ghost use Rattle.nights.specs.Record.{recordWords, recordAt, recs};
 ghost use Rattle.nights.specs.Net.{keep};
 ghost use Rattle.nights.specs.Journal.{undoAs, undoOne, checked, undoAll};
 ghost use Rattle.network_queue.specs.Plain.{plainRecord};
@@ -65,7 +65,7 @@ fn sealed(before: Network, after: Network, start: usize) -> Undone
 fn keep_front(w: &mut [u64; network_queue::WORDS], n: usize, last: u64) -> usize
     requires { ⌜ (length (now w) ≡ 1024) × (n ≤ 128) ⌝ }
     ensures count { λ m. ⌜ m ≡ length (keep (upTo last) (recs (now (w .entry)) 0 n)) ⌝ }
-    ensures words { λ m. ⌜ now (w .exit) ≡ wordsOf (keep (upTo last) (recs (now (w .entry)) 0 n)) ++ drop (m * 8) (now (w .entry)) ⌝ }
+    ensures words { λ m. ⌜ now (w .exit) ≡ recordWords (keep (upTo last) (recs (now (w .entry)) 0 n)) ++ drop (m * 8) (now (w .entry)) ⌝ }
 {
     let mut m: usize = 0;
     let mut i: usize = 0;
@@ -84,7 +84,7 @@ fn keep_front(w: &mut [u64; network_queue::WORDS], n: usize, last: u64) -> usize
 fn drop_above(w: &mut [u64; network_queue::WORDS], n: usize, last: u64) -> usize
     requires { ⌜ (length (now w) ≡ 1024) × (n ≤ 128) ⌝ }
     ensures count { λ m. ⌜ m ≡ length (keep (upTo last) (recs (now (w .entry)) 0 n)) ⌝ }
-    ensures words { λ m. ⌜ now (w .exit) ≡ wordsOf (keep (upTo last) (recs (now (w .entry)) 0 n)) ++ (replicate ((n - m) * 8) 0 ++ drop (n * 8) (now (w .entry))) ⌝ }
+    ensures words { λ m. ⌜ now (w .exit) ≡ recordWords (keep (upTo last) (recs (now (w .entry)) 0 n)) ++ (replicate ((n - m) * 8) 0 ++ drop (n * 8) (now (w .entry))) ⌝ }
 {
     let m = keep_front(w, n, last);
     network_queue::clear(
@@ -104,7 +104,7 @@ fn undo_send(network: Network, journal: &[u64], start: usize, end: usize) -> Und
     if end - start != SEND_WORDS {
         return misfit(network);
     }
-    if network.sent == 0 {
+    if network.head.sent == 0 {
         return misfit(network);
     }
     let mut me = network;
@@ -165,7 +165,7 @@ fn undo_take(network: Network, journal: &[u64], start: usize, end: usize) -> Und
     if t * network_queue::RECORD_SIZE + TAKE_WORDS != size {
         return misfit(network);
     }
-    if network.delivered < t as u64 {
+    if network.head.delivered < t as u64 {
         return misfit(network);
     }
     let mut me = network;

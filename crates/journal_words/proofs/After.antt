@@ -6,13 +6,13 @@ use mathlib.Core.Bool.{Bool, true, false}
 use mathlib.Core.List.{List}
 use native.Mathlib.Omega.{arith}
 use Rattle.nights.specs.Draws.{fateOf}
-use Rattle.nights.specs.Journal.{Answer, done, refused, Call, State, Step, step}
+use Rattle.nights.specs.Tests.{Answer, done, refused, ifDone}
+use Rattle.nights.specs.Journal.{Call, State, Step, step}
 use Rattle.nights.proofs.Steps.{refused-stays, step-keeps}
 use Rattle.network.specs.declared.Network.{Network}
 use Rattle.network.specs.Forms.{structOf, isFormed, headOf}
-use Rattle.network.specs.Calls.{settling}
-use Rattle.network.proofs.Maps.{plain-formed, struct-formed}
-use Rattle.journal.specs.Calls.{stateOf, stepOf, answerOf, wordsAfter, networkAfter}
+use Rattle.network.proofs.Structs.{plain-formed, struct-formed}
+use Rattle.journal_calls.specs.Calls.{stateOf, stepOf, answerOf, wordsAfter, networkAfter}
 use Rattle.network_words.specs.Layout.{headFits, headWords, networkIn}
 use Rattle.network_words.proofs.Told.{Kept, Done, read-kept, read-finished}
 use Rattle.journal_words.specs.Calls.{journalAnswer, journalHead, journalRecords, journalWords}
@@ -38,7 +38,7 @@ module _ (c : Call) (s : Network) (j : List ℕ) where
 
   -- a call that is done leaves a well-formed network
   stays-formed : answerOf c s j ≡ done → isFormed (networkAfter c s j) ≡ true
-  unfolding settling
+  unfolding ifDone
   stays-formed e = rw e (go (isFormed s) refl)
     where
       go : (b : Bool) → isFormed s ≡ b → isFormed (structOf (stepOf c s j .state .net)) ≡ true

@@ -1,29 +1,30 @@
 // The journal over lent words: a network's head and records as in `network_words`, and the journal's own words. A call answers 0, or
 // the number of its refusal; then no lent word is changed, those lent for the answer included. The network is read into a value and
 // written back, since a journaled call can still be refused once its network is known.
-use network::Counted;
-use network::Head;
+use network_take::Counted;
+use network_form::Head;
 use network::Network;
-use network::SendAnswer;
-use network_fates::NetworkOptions;
-use network_fates::Settled;
+use network_send::SendAnswer;
+use network_options::NetworkOptions;
+use network_options::Settled;
 ghost use mathlib.Core.Path.{_≡_};
 ghost use mathlib.Core.Bool.{true};
 ghost use mathlib.Core.List.{[], _∷_};
 ghost use lib.Dec.{T};
 ghost use lib.ListN.{length};
 ghost use Rattle.chance.specs.Probability.{goodWord};
-ghost use Rattle.nights.specs.Record.{wordsOf};
+ghost use Rattle.nights.specs.Record.{recordWords};
 ghost use Rattle.nights.specs.Net.{keep, isDue};
 ghost use Rattle.nights.specs.Draws.{decided};
 ghost use Rattle.nights.specs.Journal.{rewind};
-ghost use Rattle.network_fates.specs.Answers.{settledOf};
+ghost use Rattle.network_options.specs.Answers.{settledOf};
 ghost use Rattle.network.specs.Forms.{plainOf, isFormed, headOf, joined};
-ghost use Rattle.network_fates.specs.Options.{structOptions};
-ghost use Rattle.network.specs.Calls.{written};
+ghost use Rattle.network_options.specs.Options.{structOptions};
+ghost use Rattle.network_form.specs.Calls.{written};
 ghost use Rattle.network_words.specs.Layout.{optionsFrom, networkIn, headWords};
-ghost use Rattle.network_words.specs.Calls.{numberOf, onDone, sendTold};
-ghost use Rattle.journal.specs.Calls.{sends, takes, chooses, markAnswer, markWords};
+ghost use Rattle.network_words.specs.Calls.{numberOf, sendTold};
+ghost use Rattle.nights.specs.Tests.{ifDone};
+ghost use Rattle.journal_calls.specs.Calls.{sends, takes, chooses, markAnswer, markWords};
 ghost use Rattle.journal_words.specs.Calls.{journalAnswer, journalHead, journalRecords, journalWords};
 
 // The number of a call that has nothing more to tell.
@@ -32,7 +33,7 @@ fn settled_number(answer: Settled) -> u64
 {
     match answer {
         Settled::Done => 0,
-        Settled::Refused(refusal) => network_words::number_of(refusal),
+        Settled::Refused(refusal) => network_options::number_of(refusal),
     }
 }
 
@@ -50,7 +51,7 @@ fn write(network: Network, head: &mut [u64; 12], records: &mut [u64; 1024])
     ensures head { λ _. ⌜ now (head .exit) ≡ headWords (headOf network) ⌝ }
     ensures records { λ _. ⌜ now (records .exit) ≡ network .words ⌝ }
 {
-    network_words::store(network.head(), head);
+    network_words::store(network.head, head);
     let words = network.words;
     *records = words;
 }
@@ -60,7 +61,7 @@ pub fn mark(journal: &mut [u64]) -> u64
     ensures answer { λ r. ⌜ r ≡ numberOf (markAnswer (now (journal .entry))) ⌝ }
     ensures journal { λ _. ⌜ now (journal .exit) ≡ markWords (now (journal .entry)) ⌝ }
 {
-    settled_number(journal::mark(journal))
+    settled_number(journal_mark::mark(journal))
 }
 
 // A journaled send.
@@ -82,14 +83,14 @@ pub fn send(
     ensures head { λ _. ⌜ head .exit .now ≡ journalHead (sends now sort origin to kind handle (draws .entry .now) (extras .entry .now)) (head .entry .now) (records .entry .now) (journal .entry .now) ⌝ }
     ensures records { λ _. ⌜ records .exit .now ≡ journalRecords (sends now sort origin to kind handle (draws .entry .now) (extras .entry .now)) (head .entry .now) (records .entry .now) (journal .entry .now) ⌝ }
     ensures journal { λ _. ⌜ journal .exit .now ≡ journalWords (sends now sort origin to kind handle (draws .entry .now) (extras .entry .now)) (head .entry .now) (records .entry .now) (journal .entry .now) ⌝ }
-    ensures told { λ _. ⌜ told .exit .now ≡ onDone (journalAnswer (sends now sort origin to kind handle (draws .entry .now) (extras .entry .now)) (head .entry .now) (records .entry .now) (journal .entry .now)) (sendTold (decided (plainOf (networkIn (head .entry .now) (records .entry .now)) .options) now kind (draws .entry .now) (extras .entry .now))) (told .entry .now) ⌝ }
+    ensures told { λ _. ⌜ told .exit .now ≡ ifDone (journalAnswer (sends now sort origin to kind handle (draws .entry .now) (extras .entry .now)) (head .entry .now) (records .entry .now) (journal .entry .now)) (sendTold (decided (plainOf (networkIn (head .entry .now) (records .entry .now)) .options) now kind (draws .entry .now) (extras .entry .now))) (told .entry .now) ⌝ }
 {
     let loaded = network_words::load(head);
     if !loaded.fits {
         return network_words::ILL_FORMED;
     }
     let network = read(loaded.head, records);
-    let sent = journal::send(
+    let sent = journal_send::send(
         network,
         now,
         sort,
@@ -103,7 +104,7 @@ pub fn send(
     );
     let answer = sent.answer;
     match answer {
-        SendAnswer::Refused(refusal) => network_words::number_of(refusal),
+        SendAnswer::Refused(refusal) => network_options::number_of(refusal),
         SendAnswer::Accepted {
             lost,
             replayed,
@@ -134,19 +135,19 @@ pub fn take_due(
     ensures answer { λ r. ⌜ r ≡ numberOf (journalAnswer (takes now (length (out .entry .now))) (head .entry .now) (records .entry .now) (journal .entry .now)) ⌝ }
     ensures head { λ _. ⌜ head .exit .now ≡ journalHead (takes now (length (out .entry .now))) (head .entry .now) (records .entry .now) (journal .entry .now) ⌝ }
     ensures records { λ _. ⌜ records .exit .now ≡ journalRecords (takes now (length (out .entry .now))) (head .entry .now) (records .entry .now) (journal .entry .now) ⌝ }
-    ensures out { λ _. ⌜ out .exit .now ≡ written (journalAnswer (takes now (length (out .entry .now))) (head .entry .now) (records .entry .now) (journal .entry .now)) (wordsOf (keep (isDue now) (plainOf (networkIn (head .entry .now) (records .entry .now)) .pending))) (out .entry .now) ⌝ }
+    ensures out { λ _. ⌜ out .exit .now ≡ written (journalAnswer (takes now (length (out .entry .now))) (head .entry .now) (records .entry .now) (journal .entry .now)) (recordWords (keep (isDue now) (plainOf (networkIn (head .entry .now) (records .entry .now)) .pending))) (out .entry .now) ⌝ }
     ensures journal { λ _. ⌜ journal .exit .now ≡ journalWords (takes now (length (out .entry .now))) (head .entry .now) (records .entry .now) (journal .entry .now) ⌝ }
-    ensures told { λ _. ⌜ told .exit .now ≡ onDone (journalAnswer (takes now (length (out .entry .now))) (head .entry .now) (records .entry .now) (journal .entry .now)) (length (keep (isDue now) (plainOf (networkIn (head .entry .now) (records .entry .now)) .pending)) ∷ []) (told .entry .now) ⌝ }
+    ensures told { λ _. ⌜ told .exit .now ≡ ifDone (journalAnswer (takes now (length (out .entry .now))) (head .entry .now) (records .entry .now) (journal .entry .now)) (length (keep (isDue now) (plainOf (networkIn (head .entry .now) (records .entry .now)) .pending)) ∷ []) (told .entry .now) ⌝ }
 {
     let loaded = network_words::load(head);
     if !loaded.fits {
         return network_words::ILL_FORMED;
     }
     let network = read(loaded.head, records);
-    let taken = journal::take_due(network, now, out, journal);
+    let taken = journal_take::take_due(network, now, out, journal);
     let answer = taken.answer;
     match answer {
-        Counted::Refused(refusal) => network_words::number_of(refusal),
+        Counted::Refused(refusal) => network_options::number_of(refusal),
         Counted::Records(count) => {
             write(taken.network, head, records);
             *told = [count as u64];
@@ -188,8 +189,8 @@ pub fn set_options(
     if !loaded.fits {
         return network_words::ILL_FORMED;
     }
-    network_words::whole(records);
-    if !network::formed(records, loaded.head) {
+    network_queue::whole(records);
+    if !network_form::formed(records, loaded.head) {
         return network_words::ILL_FORMED;
     }
     let number = network_words::options_number(loss, replay, min, mean);
@@ -198,14 +199,14 @@ pub fn set_options(
     }
     let network = read(loaded.head, records);
     let options = options_of(loss, replay, min, mean, flag);
-    let next = journal::set_options(network, options, journal);
+    let next = journal_options::set_options(network, options, journal);
     let answer = next.answer;
     let Settled::Refused(refusal) = answer else {
         let after = next.network;
-        network_words::store(after.head(), head);
+        network_words::store(after.head, head);
         return 0;
     };
-    network_words::number_of(refusal)
+    network_options::number_of(refusal)
 }
 
 // Goes back over the last k calls held.
@@ -220,11 +221,11 @@ pub fn rewind(head: &mut [u64; 12], records: &mut [u64; 1024], k: u64, journal: 
         return network_words::ILL_FORMED;
     }
     let network = read(loaded.head, records);
-    let next = journal::rewind(network, k, journal);
+    let next = journal_rewind::rewind(network, k, journal);
     let answer = next.answer;
     let Settled::Refused(refusal) = answer else {
         write(next.network, head, records);
         return 0;
     };
-    network_words::number_of(refusal)
+    network_options::number_of(refusal)
 }

@@ -11,5 +11,3 @@ pub mod Back
 pub mod Claim
 pub mod Kept
 pub mod Steps
-pub mod Worked
-pub mod Instances

@@ -2,3 +2,4 @@
 pub mod Digits
 pub mod Reading
 pub mod Writing
+pub mod Bytes

@@ -1,16 +1,42 @@
 -- The 49 words of a state of plants, as the host lends them: n; 15 flags up; 15 flags partitioned; 15 ticks; crashes, restarts,
 -- reboots. Words that name no case have a refusal of their own. Assumes nothing.
-use Prim.Native.Nat.{ℕ}
+use Prim.Native.Nat.{ℕ, _+_, _*_}
 use mathlib.Core.Bool.{Bool, true, cond, _&&_}
 use mathlib.Core.List.{List, [], _∷_, _++_, map}
 use lib.Dec.{leb, eqb}
 use lib.ListN.{getD, take, drop}
 use Rattle.script.specs.declared.fault.Fault.{Fault}
 use Rattle.script.specs.declared.fault.Fault.the-variants.{Crash, Restart, Reboot, Partition, Heal, HealAll}
-use Rattle.basis.specs.Basis.{plantCount, bit}
+use Rattle.basis.specs.Basis.{most, plantCount, bit}
 use Rattle.plants.specs.declared.Plants.{Plants}
 use Rattle.plants.specs.declared.Origin.{Origin}
 use Rattle.plants.specs.declared.Origin.the-variants.{Replica, Client}
+
+-- where the parts of a state stand, behind n, and how many words it has
+abbrev pub upAt : ℕ
+upAt = 1
+
+abbrev pub partitionedAt : ℕ
+partitionedAt = upAt + most
+
+abbrev pub stableAt : ℕ
+stableAt = partitionedAt + most
+
+abbrev pub crashesAt : ℕ
+crashesAt = stableAt + most
+
+abbrev pub restartsAt : ℕ
+restartsAt = crashesAt + 1
+
+abbrev pub rebootsAt : ℕ
+rebootsAt = restartsAt + 1
+
+abbrev pub stateSize : ℕ
+stateSize = rebootsAt + 1
+
+-- a core's answer: its size, the picks used, and an id or 0 for each of the most plants
+abbrev pub coreSize : ℕ
+coreSize = 2 + most
 
 -- flags and their words
 abbrev pub flagOf : ℕ → Bool
@@ -28,23 +54,23 @@ allBits (w ∷ ws) = leb w 1 && allBits ws
 
 -- the words of the flags are 0 or 1
 abbrev pub flagsFit : List ℕ → Bool
-flagsFit w = allBits (take 30 (drop 1 w))
+flagsFit w = allBits (take (2 * most) (drop upAt w))
 
 -- the ticks
 abbrev pub ticksIn : List ℕ → List ℕ
-ticksIn w = take 15 (drop 31 w)
+ticksIn w = take most (drop stableAt w)
 
 -- the state of the words, and the words of a state
 abbrev pub plantsIn : List ℕ → Plants
 plantsIn w =
     record {
       n = getD w 0 0;
-      up = flagsIn (take 15 (drop 1 w));
-      partitioned = flagsIn (take 15 (drop 16 w));
+      up = flagsIn (take most (drop upAt w));
+      partitioned = flagsIn (take most (drop partitionedAt w));
       «stable_until» = ticksIn w;
-      crashes = getD w 46 0;
-      restarts = getD w 47 0;
-      reboots = getD w 48 0;
+      crashes = getD w crashesAt 0;
+      restarts = getD w restartsAt 0;
+      reboots = getD w rebootsAt 0;
     }
 
 abbrev pub wordsOf : Plants → List ℕ

@@ -3,6 +3,7 @@
 //
 // A state is 49 words: n; a flag for each of 15 plants that it is up; a flag for each that it is partitioned; for each the tick until
 // which it is stable; crashes, restarts, reboots.
+use basis::MOST;
 use plants::Judged;
 use plants::Origin;
 use plants::Outcome;
@@ -15,26 +16,29 @@ ghost use mathlib.Core.Path.{_≡_};
 ghost use mathlib.Core.List.{[], _∷_, _++_};
 ghost use Prim.Native.Nat.{_+_, _≤_};
 ghost use lib.ListN.{length, take, drop};
-ghost use Rattle.plants_words.specs.Layout.{flagsIn, flagsFit, ticksIn, plantsIn, wordsOf, bits, shaped, faultIn, originIn};
+ghost use Rattle.basis.specs.Basis.{most};
+ghost use Rattle.plants_words.specs.Layout.{stableAt, crashesAt, stateSize, coreSize, flagsIn, flagsFit, ticksIn, plantsIn, wordsOf, bits, shaped, faultIn, originIn};
 ghost use Rattle.plants_words.specs.Calls.{newAnswer, newWords, applyAnswer, applyWords, nonceWords, verdictAnswer, verdictWords, coreAnswer, coreWords, coreAnswered, coreTold};
 
-// The words of a state, and where its parts begin.
-pub const WORDS: usize = 49;
-
+// Where the parts of a state begin, and how many words it has.
 const UP: usize = 1;
 
-const PARTITIONED: usize = 16;
+const PARTITIONED: usize = UP + MOST;
 
-const STABLE: usize = 31;
+const STABLE: usize = PARTITIONED + MOST;
 
-const CRASHES: usize = 46;
+const CRASHES: usize = STABLE + MOST;
 
-const RESTARTS: usize = 47;
+const RESTARTS: usize = CRASHES + 1;
 
-const REBOOTS: usize = 48;
+const REBOOTS: usize = RESTARTS + 1;
 
-// The words of a core's answer: its size, the picks used, and its ids with zeros behind them.
-pub const CORE_WORDS: usize = 17;
+pub const WORDS: usize = REBOOTS + 1;
+
+// A core's answer: its size, the picks used, and its ids with zeros behind them.
+const IDS: usize = 2;
+
+pub const CORE_WORDS: usize = IDS + MOST;
 
 // The number of an unknown fault, and that of an unknown sort of sender.
 const UNKNOWN_FAULT: u64 = 5;
@@ -47,8 +51,8 @@ const UNKNOWN_SORT: u64 = 24;
 fn seen(words: &[u64]) {}
 
 // The words lent for a state are 49.
-fn sized(words: &[u64; 49])
-    ensures { λ _. ⌜ length (now (words .entry)) ≡ 49 ⌝ }
+fn sized(words: &[u64; WORDS])
+    ensures { λ _. ⌜ length (now (words .entry)) ≡ stateSize ⌝ }
 {
     seen(words);
 }
@@ -62,20 +66,20 @@ fn put_word(told: &mut [u64; 1], word: u64)
 }
 
 // The words lent for a core are 17.
-fn sized_core(told: &[u64; 17])
-    ensures { λ _. ⌜ length (now (told .entry)) ≡ 17 ⌝ }
+fn sized_core(told: &[u64; CORE_WORDS])
+    ensures { λ _. ⌜ length (now (told .entry)) ≡ coreSize ⌝ }
 {
     seen(told);
 }
 
 // The 15 flags from a word on.
-fn flags_at(words: &[u64; 49], at: usize) -> [bool; 15]
-    requires { ⌜ (length (now words) ≡ 49) × (at + 15 ≤ 49) ⌝ }
-    ensures { λ r. ⌜ r ≡ flagsIn (take 15 (drop at (now (words .entry)))) ⌝ }
+fn flags_at(words: &[u64; WORDS], at: usize) -> [bool; MOST]
+    requires { ⌜ (length (now words) ≡ stateSize) × (at + most ≤ stateSize) ⌝ }
+    ensures { λ r. ⌜ r ≡ flagsIn (take most (drop at (now (words .entry)))) ⌝ }
 {
-    let mut flags = [false; 15];
+    let mut flags = [false; MOST];
     let mut i: usize = 0;
-    while i < basis::MOST {
+    while i < MOST {
         flags[i] = words[at + i] == 1;
         i += 1;
     }
@@ -83,13 +87,13 @@ fn flags_at(words: &[u64; 49], at: usize) -> [bool; 15]
 }
 
 // The 15 ticks.
-fn ticks_of(words: &[u64; 49]) -> [u64; 15]
-    requires { ⌜ length (now words) ≡ 49 ⌝ }
+fn ticks_of(words: &[u64; WORDS]) -> [u64; MOST]
+    requires { ⌜ length (now words) ≡ stateSize ⌝ }
     ensures { λ r. ⌜ r ≡ ticksIn (now (words .entry)) ⌝ }
 {
-    let mut ticks = [0u64; 15];
+    let mut ticks = [0u64; MOST];
     let mut i: usize = 0;
-    while i < basis::MOST {
+    while i < MOST {
         ticks[i] = words[STABLE + i];
         i += 1;
     }
@@ -97,8 +101,8 @@ fn ticks_of(words: &[u64; 49]) -> [u64; 15]
 }
 
 // Whether the words of the flags are 0 or 1.
-fn flags_fit(words: &[u64; 49]) -> bool
-    requires { ⌜ length (now words) ≡ 49 ⌝ }
+fn flags_fit(words: &[u64; WORDS]) -> bool
+    requires { ⌜ length (now words) ≡ stateSize ⌝ }
     ensures { λ r. ⌜ r ≡ flagsFit (now (words .entry)) ⌝ }
 {
     let mut i = UP;
@@ -112,8 +116,8 @@ fn flags_fit(words: &[u64; 49]) -> bool
 }
 
 // The state of the words.
-fn load(words: &[u64; 49]) -> Plants
-    requires { ⌜ length (now words) ≡ 49 ⌝ }
+fn load(words: &[u64; WORDS]) -> Plants
+    requires { ⌜ length (now words) ≡ stateSize ⌝ }
     ensures { λ r. ⌜ r ≡ plantsIn (now (words .entry)) ⌝ }
 {
     let up = flags_at(words, UP);
@@ -131,12 +135,12 @@ fn load(words: &[u64; 49]) -> Plants
 }
 
 // Flags written from a word on.
-fn put_flags(words: &mut [u64; 49], at: usize, flags: &[bool; 15])
-    requires { ⌜ (length (now words) ≡ 49) × (length (now flags) ≡ 15) × (at + 15 ≤ 49) ⌝ }
-    ensures { λ _. ⌜ now (words .exit) ≡ take at (now (words .entry)) ++ (bits (now (flags .entry)) ++ drop (at + 15) (now (words .entry))) ⌝ }
+fn put_flags(words: &mut [u64; WORDS], at: usize, flags: &[bool; MOST])
+    requires { ⌜ (length (now words) ≡ stateSize) × (length (now flags) ≡ most) × (at + most ≤ stateSize) ⌝ }
+    ensures { λ _. ⌜ now (words .exit) ≡ take at (now (words .entry)) ++ (bits (now (flags .entry)) ++ drop (at + most) (now (words .entry))) ⌝ }
 {
     let mut i: usize = 0;
-    while i < basis::MOST {
+    while i < MOST {
         let flag = flags[i];
         words[at + i] = flag as u64;
         i += 1;
@@ -144,12 +148,12 @@ fn put_flags(words: &mut [u64; 49], at: usize, flags: &[bool; 15])
 }
 
 // Ticks written.
-fn put_ticks(words: &mut [u64; 49], ticks: &[u64; 15])
-    requires { ⌜ (length (now words) ≡ 49) × (length (now ticks) ≡ 15) ⌝ }
-    ensures { λ _. ⌜ now (words .exit) ≡ take 31 (now (words .entry)) ++ (now (ticks .entry) ++ drop 46 (now (words .entry))) ⌝ }
+fn put_ticks(words: &mut [u64; WORDS], ticks: &[u64; MOST])
+    requires { ⌜ (length (now words) ≡ stateSize) × (length (now ticks) ≡ most) ⌝ }
+    ensures { λ _. ⌜ now (words .exit) ≡ take stableAt (now (words .entry)) ++ (now (ticks .entry) ++ drop crashesAt (now (words .entry))) ⌝ }
 {
     let mut i: usize = 0;
-    while i < basis::MOST {
+    while i < MOST {
         let tick = ticks[i];
         words[STABLE + i] = tick;
         i += 1;
@@ -157,8 +161,8 @@ fn put_ticks(words: &mut [u64; 49], ticks: &[u64; 15])
 }
 
 // The words of a state.
-fn store(plants: Plants, words: &mut [u64; 49])
-    requires { ⌜ length (now words) ≡ 49 ⌝ }
+fn store(plants: Plants, words: &mut [u64; WORDS])
+    requires { ⌜ length (now words) ≡ stateSize ⌝ }
     ensures { λ _. ⌜ now (words .exit) ≡ wordsOf plants ⌝ }
 {
     let me = plants;
@@ -172,15 +176,15 @@ fn store(plants: Plants, words: &mut [u64; 49])
 }
 
 // What the words themselves answer, before the state is looked at: 40, and then 42 for a flag that is neither 0 nor 1.
-fn shape(words: &[u64; 49]) -> u64
-    requires { ⌜ length (now words) ≡ 49 ⌝ }
+fn shape(words: &[u64; WORDS]) -> u64
+    requires { ⌜ length (now words) ≡ stateSize ⌝ }
     ensures { λ r. ⌜ r ≡ shaped (now (words .entry)) ⌝ }
 {
     let n = words[0];
     if n < basis::FEWEST as u64 {
         return Refusal::PlantCount.number();
     }
-    if (basis::MOST as u64) < n {
+    if (MOST as u64) < n {
         return Refusal::PlantCount.number();
     }
     if flags_fit(words) {
@@ -192,7 +196,7 @@ fn shape(words: &[u64; 49]) -> u64
 // ---- The calls
 
 // Fresh plants.
-pub fn new(n: u64, words: &mut [u64; 49]) -> u64
+pub fn new(n: u64, words: &mut [u64; WORDS]) -> u64
     ensures answer { λ r. ⌜ r ≡ newAnswer n ⌝ }
     ensures words { λ _. ⌜ now (words .exit) ≡ newWords n (now (words .entry)) ⌝ }
 {
@@ -223,7 +227,7 @@ fn fault_of(number: u64, id: u64) -> Fault
 
 // Injects a fault at a tick; a reboot's nonce is told.
 pub fn apply(
-    words: &mut [u64; 49],
+    words: &mut [u64; WORDS],
     tick: u64,
     fault: u64,
     id: u64,
@@ -271,7 +275,7 @@ fn origin_of(sort: u64, id: u64) -> Origin
 }
 
 // What becomes of a message that is due at plant `to`: its verdict is told.
-pub fn verdict(words: &[u64; 49], sort: u64, id: u64, to: u64, told: &mut [u64; 1]) -> u64
+pub fn verdict(words: &[u64; WORDS], sort: u64, id: u64, to: u64, told: &mut [u64; 1]) -> u64
     ensures answer { λ r. ⌜ r ≡ verdictAnswer (now (words .entry)) sort id to ⌝ }
     ensures told { λ _. ⌜ now (told .exit) ≡ verdictWords (now (words .entry)) sort id to (now (told .entry)) ⌝ }
 {
@@ -294,27 +298,27 @@ pub fn verdict(words: &[u64; 49], sort: u64, id: u64, to: u64, told: &mut [u64; 
 }
 
 // The answer of a core: its size, the picks used, and its 15 words.
-fn put_core(told: &mut [u64; 17], size: usize, used: usize, core: &[u64; 15])
-    requires { ⌜ (length (now told) ≡ 17) × (length (now core) ≡ 15) ⌝ }
+fn put_core(told: &mut [u64; CORE_WORDS], size: usize, used: usize, core: &[u64; MOST])
+    requires { ⌜ (length (now told) ≡ coreSize) × (length (now core) ≡ most) ⌝ }
     ensures { λ _. ⌜ now (told .exit) ≡ coreTold size used (now (core .entry)) ⌝ }
 {
     told[0] = size as u64;
     told[1] = used as u64;
     let mut i: usize = 0;
-    while i < basis::MOST {
+    while i < MOST {
         let id = core[i];
-        told[2 + i] = id;
+        told[IDS + i] = id;
         i += 1;
     }
 }
 
 // Chooses the core of plants that stays up; `full` is no for 0 and yes otherwise.
 pub fn choose_core(
-    words: &mut [u64; 49],
+    words: &mut [u64; WORDS],
     recovering: &[u64],
     picks: &[u64],
     full: u64,
-    told: &mut [u64; 17],
+    told: &mut [u64; CORE_WORDS],
 ) -> u64
     ensures answer { λ r. ⌜ r ≡ coreAnswer (now (words .entry)) (now (recovering .entry)) (now (picks .entry)) full ⌝ }
     ensures words { λ _. ⌜ now (words .exit) ≡ coreWords (now (words .entry)) (now (recovering .entry)) (now (picks .entry)) full ⌝ }

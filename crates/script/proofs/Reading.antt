@@ -12,7 +12,7 @@ use Rattle.order.specs.Order.{wordsOf}
 use Rattle.order.specs.Order as order
 use Rattle.script_words.proofs.Walk.{until-in}
 use Rattle.script.specs.Lines.{lineSays}
-use Rattle.script.specs.Scripts.{eventsIn, eventsOf, judged, judgedLine, said}
+use Rattle.script.specs.Scripts.{longest, heldWords, eventsIn, eventsOf, judged, judgedLine, said}
 use Rattle.script.specs.declared.fault.Fault.{Fault}
 use Rattle.script.specs.declared.line.Line.{Line}
 use Rattle.script.specs.declared.line.Line.the-variants.{Blank, Event, Faulty}
@@ -69,8 +69,8 @@ more room found next (Faulty r) e = let z : _≡_ {A = ℕ} 0 1 = cc in absurd (
 
 -- up to a place `found` events stand at the front of the held words, and the lines from there on say the rest
 pub record Reading (room : ℕ) (text start held : List ℕ) (line found place : ℕ) : Type 0 where
-  pub short : length text ≤ 65536
-  pub long : 21843 ≤ length start
+  pub short : length text ≤ longest
+  pub long : heldWords ≤ length start
   pub within : place ≤ length text + 1
   pub below : line ≤ place + 1
   pub some : found ≤ length (eventsOf (said text))
@@ -78,7 +78,7 @@ pub record Reading (room : ℕ) (text start held : List ℕ) (line found place :
   pub others : drop found (eventsOf (said text)) ≡ eventsOf (left text place)
   pub front : held ≡ written (eventsOf (said text)) start found
 
-pub starts : (room : ℕ) (text start : List ℕ) → length text ≤ 65536 → 21843 ≤ length start → Reading room text start start 1 0 0
+pub starts : (room : ℕ) (text start : List ℕ) → length text ≤ longest → heldWords ≤ length start → Reading room text start start 1 0 0
 unfolding wordsOf
 starts room text start short long = record {
   short = short;
@@ -92,7 +92,7 @@ starts room text start short long = record {
 }
 
 -- the most events that a text can have fit the held words
-fits : (text start : List ℕ) → length text ≤ 65536 → 21843 ≤ length start → 3 * length (eventsOf (said text)) ≤ length start
+fits : (text start : List ℕ) → length text ≤ longest → heldWords ≤ length start → 3 * length (eventsOf (said text)) ≤ length start
 fits text start short long = omega (arith, at-most text)
 
 module _ {room : ℕ} {text start held : List ℕ} {line found place : ℕ} (r : Reading room text start held line found place) where

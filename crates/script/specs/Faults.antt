@@ -4,6 +4,7 @@ use mathlib.Core.Bool.{Bool, true, false, cond, _&&_}
 use mathlib.Core.List.{List, [], _∷_}
 use Prim.Native.Nat.{ℕ}
 use lib.Dec.{eqb}
+use Rattle.numeral.specs.Bytes.{bytes}
 use Rattle.script.specs.declared.fault.Fault.{Fault}
 use Rattle.script.specs.declared.fault.Fault.the-variants.{Crash, Restart, Reboot, Partition, Heal, HealAll}
 use Rattle.script.specs.declared.fault.Named.{Named}
@@ -52,22 +53,22 @@ same (x ∷ xs) (y ∷ ys) = eqb x y && same xs ys
 
 -- a fault's name in a script
 abbrev pub crash : List ℕ
-crash = 99 ∷ 114 ∷ 97 ∷ 115 ∷ 104 ∷ []
+crash = bytes "crash"
 
 abbrev pub restart : List ℕ
-restart = 114 ∷ 101 ∷ 115 ∷ 116 ∷ 97 ∷ 114 ∷ 116 ∷ []
+restart = bytes "restart"
 
 abbrev pub reboot : List ℕ
-reboot = 114 ∷ 101 ∷ 98 ∷ 111 ∷ 111 ∷ 116 ∷ []
+reboot = bytes "reboot"
 
 abbrev pub partition : List ℕ
-partition = 112 ∷ 97 ∷ 114 ∷ 116 ∷ 105 ∷ 116 ∷ 105 ∷ 111 ∷ 110 ∷ []
+partition = bytes "partition"
 
 abbrev pub heal : List ℕ
-heal = 104 ∷ 101 ∷ 97 ∷ 108 ∷ []
+heal = bytes "heal"
 
 abbrev pub healAll : List ℕ
-healAll = 104 ∷ 101 ∷ 97 ∷ 108 ∷ 45 ∷ 97 ∷ 108 ∷ 108 ∷ []
+healAll = bytes "heal-all"
 
 -- the name of a fault
 abbrev pub faultName : Fault → List ℕ

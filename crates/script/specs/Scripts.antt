@@ -33,6 +33,10 @@ refusalNumber NoRoom = 8
 abbrev pub longest : ℕ
 longest = 65536
 
+-- three words for each event that so many bytes can hold: one for nine bytes, the last line's LF left out (proofs/Most)
+abbrev pub heldWords : ℕ
+heldWords = 3 * ((longest + 1) / 9)
+
 -- the line of the first byte over 127, counted from n, or 0 where there is no such byte
 unfoldable pub strayFrom : ℕ → List ℕ → ℕ
 strayFrom n [] = 0

@@ -12,7 +12,7 @@ ghost use lib.ListN.{length};
 ghost use Rattle.basis.specs.Basis.{laid};
 ghost use Rattle.order.specs.Order.{wordsOf};
 ghost use Rattle.script.specs.Lines.{lineSays};
-ghost use Rattle.script.specs.Scripts.{refusalNumber, strayLine, judged, judgedLine, said, eventsIn, eventsOf, answerOf, wordsGiven, wordsAfter};
+ghost use Rattle.script.specs.Scripts.{refusalNumber, longest, heldWords, strayLine, judged, judgedLine, said, eventsIn, eventsOf, answerOf, wordsGiven, wordsAfter};
 
 // What a script says: how many events it has, or why it is refused and at which line.
 pub enum Script {
@@ -29,8 +29,8 @@ pub enum Judged {
 // The most bytes that a text may have.
 pub const LONGEST: usize = 65536;
 
-// Three words for each of the 7,281 events that so many bytes can hold (proofs/Most).
-const HELD: usize = 21843;
+// Three words for each of the 7,281 events that so many bytes can hold: one for nine bytes, the last line's LF left out (proofs/Most).
+const HELD: usize = 3 * ((LONGEST + 1) / 9);
 
 // A refusal's number.
 pub fn refusal_number(refusal: Refusal) -> u64
@@ -124,7 +124,7 @@ fn put_event(events: &mut [u64], count: usize, tick: u64, fault: Fault) -> usize
 // Reads the lines. The events of a script that is accepted then stand at the front of the held
 // words, in file order.
 fn read_lines(text: &[u8], held: &mut [u64], room: usize) -> Script
-    requires { ⌜ (length (now text) ≤ 65536) × (21843 ≤ length (now held)) ⌝ }
+    requires { ⌜ (length (now text) ≤ longest) × (heldWords ≤ length (now held)) ⌝ }
     ensures answer { λ r. ⌜ r ≡ judged room 1 0 (said (now (text .entry))) ⌝ }
     ensures words { λ r. ⌜ ((n : ℕ) → r ≡ Script.Events n → now (held .exit) ≡ laid (now (held .entry)) 0 (wordsOf (eventsOf (said (now (text .entry)))))) ⌝ }
 {
@@ -146,7 +146,7 @@ fn read_lines(text: &[u8], held: &mut [u64], room: usize) -> Script
 // The script of a text with no more bytes than may be and none over 127. Its events are held apart
 // until the last line was read, for a refusal leaves the lent words as they came.
 fn read_script(text: &[u8], events: &mut [u64], held: &mut [u64]) -> Script
-    requires { ⌜ (length (now text) ≤ 65536) × (21843 ≤ length (now held)) ⌝ }
+    requires { ⌜ (length (now text) ≤ longest) × (heldWords ≤ length (now held)) ⌝ }
     ensures answer { λ r. ⌜ r ≡ judged (length (now (events .entry)) / 3) 1 0 (said (now (text .entry))) ⌝ }
     ensures words { λ r. ⌜ now (events .exit) ≡ wordsGiven r (now (text .entry)) (now (events .entry)) ⌝ }
 {

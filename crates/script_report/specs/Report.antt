@@ -3,9 +3,10 @@
 -- line feed. Assumes nothing.
 use mathlib.Core.Bool.{cond}
 use mathlib.Core.List.{List, [], _∷_, _++_}
-use Prim.Native.Nat.{ℕ, _+_}
+use Prim.Native.Nat.{ℕ, _+_, _*_}
 use lib.Dec.{leb, eqb}
 use lib.ListN.{length, drop}
+use Rattle.numeral.specs.Bytes.{bytes}
 use Rattle.numeral.specs.Writing.{decimal}
 use Rattle.order.specs.Order.{Event}
 use Rattle.script.specs.Faults.{crash, restart, reboot, partition, heal, healAll}
@@ -21,22 +22,22 @@ numberLine key n = key ++ (decimal n ++ 10 ∷ [])
 
 -- the keys, with their `=`
 abbrev pub eventsKey : List ℕ
-eventsKey = 101 ∷ 118 ∷ 101 ∷ 110 ∷ 116 ∷ 115 ∷ 61 ∷ []
+eventsKey = bytes "events="
 
 abbrev pub tickKey : List ℕ
-tickKey = 116 ∷ 105 ∷ 99 ∷ 107 ∷ 61 ∷ []
+tickKey = bytes "tick="
 
 abbrev pub faultKey : List ℕ
-faultKey = 102 ∷ 97 ∷ 117 ∷ 108 ∷ 116 ∷ 61 ∷ []
+faultKey = bytes "fault="
 
 abbrev pub idKey : List ℕ
-idKey = 105 ∷ 100 ∷ 61 ∷ []
+idKey = bytes "id="
 
 abbrev pub refusalKey : List ℕ
-refusalKey = 114 ∷ 101 ∷ 102 ∷ 117 ∷ 115 ∷ 97 ∷ 108 ∷ 61 ∷ []
+refusalKey = bytes "refusal="
 
 abbrev pub lineKey : List ℕ
-lineKey = 108 ∷ 105 ∷ 110 ∷ 101 ∷ 61 ∷ []
+lineKey = bytes "line="
 
 -- a fault's name by its number, 0 to 5; no event has another
 unfoldable pub nameOf : ℕ → List ℕ
@@ -66,17 +67,20 @@ abbrev pub answerText : Script → List Event → List ℕ
 answerText (Events n) es = listed n es
 answerText (Refused r n) es = numberLine refusalKey (refusalNumber r) ++ numberLine lineKey n
 
--- the words lent to the reader: room for 2,048 events
-abbrev pub room : ℕ
-room = 6144
+-- the most events that the program takes, and the words lent to the reader for them
+abbrev pub mostReported : ℕ
+mostReported = 2048
+
+abbrev pub eventRoom : ℕ
+eventRoom = 3 * mostReported
 
 -- what is written for a text
 unfoldable pub reportText : List ℕ → List ℕ
-reportText text = answerText (answerOf text room) (sortedEvents text)
+reportText text = answerText (answerOf text eventRoom) (sortedEvents text)
 
--- the bytes that are always enough: 28 for a key and a number on the first line, and 66 for each of 2,048 events
+-- the bytes that are always enough: 28 for a key and a number on the first line, and 66 for each event
 abbrev pub enough : ℕ
-enough = 135196
+enough = 28 + 66 * mostReported
 
 -- the answer and the lent bytes: nothing is written where fewer than enough are lent
 unfoldable pub reportOf : List ℕ → ℕ → Reported

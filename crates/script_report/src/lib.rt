@@ -8,7 +8,7 @@ ghost use lib.ListN.{length, take};
 ghost use Rattle.basis.specs.Basis.{laid};
 ghost use Rattle.numeral.specs.Writing.{decimal};
 ghost use Rattle.order.specs.Order.{eventsIn};
-ghost use Rattle.script_report.specs.Report.{numberLine, nameOf, faultLine, eventText, eventsText, listed, reportOf, bytesAfter};
+ghost use Rattle.script_report.specs.Report.{mostReported, enough, numberLine, nameOf, faultLine, eventText, eventsText, listed, reportOf, bytesAfter};
 
 // How a report ended: with the number of bytes at the front of the slice, or with nothing written.
 pub enum Reported {
@@ -16,15 +16,17 @@ pub enum Reported {
     NoRoom,
 }
 
-// The words lent to the reader: 2,048 events.
-pub const ROOM: usize = 6144;
+// The most events that the program takes, and the words lent to the reader for them.
+const EVENTS: usize = 2048;
+
+const ROOM: usize = 3 * EVENTS;
 
 // The bytes that are always enough: 28 for the line of the count, and 66 for each event.
-pub const ENOUGH: usize = 135196;
+pub const ENOUGH: usize = 28 + 66 * EVENTS;
 
 // Room for every report. The contract gives its length alone, which is all that lending it asks.
 pub fn room() -> [u8; ENOUGH]
-    ensures { λ r. ⌜ 135196 ≡ length r ⌝ }
+    ensures { λ r. ⌜ enough ≡ length r ⌝ }
 {
     [0; ENOUGH]
 }
@@ -49,7 +51,7 @@ pub fn report(text: &[u8], out: &mut [u8]) -> Reported
 
 // The count of the events and then each of the first `count`.
 fn put_events(events: &[u64], count: usize, out: &mut [u8]) -> usize
-    requires { ⌜ (count ≤ 2048) × (3 * count ≤ length (now events)) × (135196 ≤ length (now out)) ⌝ }
+    requires { ⌜ (count ≤ mostReported) × (3 * count ≤ length (now events)) × (enough ≤ length (now out)) ⌝ }
     ensures place { λ r. ⌜ r ≡ length (listed count (eventsIn (take (3 * count) (now (events .entry))))) ⌝ }
     ensures bytes { λ r. ⌜ now (out .exit) ≡ laid (now (out .entry)) 0 (listed count (eventsIn (take (3 * count) (now (events .entry))))) ⌝ }
 {

@@ -4,8 +4,8 @@ use Prim.Native.Nat.{_≤_}
 use lib.ListN.{length}
 use lib.Seq.{length-take-le}
 use Rattle.script_report.proofs.Within.{handed}
-use Rattle.faults.specs.Input.{Filled}
-use Rattle.faults.specs.declared.Input.{Input}
+use Rattle.input.specs.Input.{Filled}
+use Rattle.input.specs.declared.Input.{Input}
 use borrow.Author.Needs.{needs}
 use Rattle.faults.proofs.main.Statement.{statement}
 use Rattle.faults.proofs.main.Tie as tie

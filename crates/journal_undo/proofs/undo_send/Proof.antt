@@ -3,7 +3,7 @@ use mathlib.Core.Path.{_≡_, _∙_}
 use native.Mathlib.Omega.{arith}
 use borrow.Author.Needs.{needs}
 use lib.ListN.{length}
-use Rattle.network.proofs.Maps.{small}
+use Rattle.network.proofs.Structs.{small}
 use Rattle.journal_undo.proofs.Telling.{told-misfit, send-size, none-sent, send-fits}
 use Rattle.journal_undo.proofs.Leaving.{send-leaves}
 use Rattle.journal_undo.proofs.undo_send.Statement.{statement}

@@ -4,7 +4,7 @@ use native.Mathlib.Omega.{arith}
 use borrow.Author.Needs.{needs}
 use lib.ListN.{length}
 use Rattle.network_queue.proofs.Inserting.{length-recs}
-use Rattle.network.proofs.Maps.{small}
+use Rattle.network.proofs.Structs.{small}
 use Rattle.journal_undo.proofs.Telling.{told-misfit, take-size, few-delivered, too-many, take-fits}
 use Rattle.journal_undo.proofs.Leaving.{take-leaves}
 use Rattle.journal_undo.proofs.undo_take.Statement.{statement}

@@ -7,18 +7,18 @@ use borrow.Author.Tests.{not-true, not-false}
 use denote.Floats.{passes}
 use Rattle.chance.specs.Probability.{goodWord}
 use Rattle.nights.specs.Net.{Options, choose, goodOptions}
-use Rattle.nights.specs.Journal.{Answer, refused, verdict, optionTests}
+use Rattle.nights.specs.Tests.{Answer, refused, verdict, optionTests}
 use Rattle.basis.proofs.Laws.{both}
-use Rattle.network.specs.declared.Head.{Head}
+use Rattle.network_form.specs.declared.Head.{Head}
 use Rattle.network.specs.declared.Network.{Network}
-use Rattle.network_fates.specs.Answers.{settledOf}
-use Rattle.network_fates.specs.Options.{plainOptions}
+use Rattle.network_options.specs.Answers.{settledOf}
+use Rattle.network_options.specs.Options.{plainOptions}
 use Rattle.network.specs.Forms.{joined, headOf, isFormed}
 use Rattle.network.specs.Calls.{callAnswer}
-use Rattle.network_fates.proofs.OptionForms.{good-done}
-use Rattle.network.proofs.Calling.{call-ill}
-use Rattle.journal.specs.Calls.{chooses, answerOf}
-use Rattle.journal.proofs.Journaled.{Met, refused-first}
+use Rattle.network_options.proofs.OptionForms.{good-done}
+use Rattle.network.proofs.Structs.{call-ill}
+use Rattle.journal_calls.specs.Calls.{chooses, answerOf}
+use Rattle.journal_calls.proofs.Journaled.{Met, refused-first}
 use Rattle.network_words.specs.Layout.{headFits, headWords, optionsFrom, networkIn}
 use Rattle.network_words.proofs.Heads.{told-fits, head-read}
 use Rattle.network_words.proofs.Told.{Kept, unread, read-kept, number-refused}

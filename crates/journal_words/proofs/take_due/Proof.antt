@@ -5,15 +5,16 @@ use borrow.Author.Tests.{not-true, not-false}
 use Prim.Native.Nat.{ℕ}
 use mathlib.Core.List.{List, [], _∷_}
 use lib.ListN.{length}
-use Rattle.nights.specs.Record.{Record, wordsOf}
+use Rattle.nights.specs.Record.{Record, recordWords}
 use Rattle.nights.specs.Net.{keep, isDue}
-use Rattle.nights.specs.Journal.{Answer, Call}
-use Rattle.network.specs.declared.Head.{Head}
+use Rattle.nights.specs.Tests.{Answer}
+use Rattle.nights.specs.Journal.{Call}
+use Rattle.network_form.specs.declared.Head.{Head}
 use Rattle.network.specs.declared.Network.{Network}
-use Rattle.network.specs.Answers.{countedOf, counting}
+use Rattle.network_take.specs.Takes.{countedOf, counting}
 use Rattle.network.specs.Forms.{plainOf, joined}
-use Rattle.network.specs.Calls.{written}
-use Rattle.journal.specs.Calls.{takes, answerOf, networkAfter, wordsAfter}
+use Rattle.network_form.specs.Calls.{written}
+use Rattle.journal_calls.specs.Calls.{takes, answerOf, networkAfter, wordsAfter}
 use Rattle.network_words.specs.Layout.{headFits, networkIn}
 use Rattle.network_words.proofs.Heads.{told-fits, head-read, a-head}
 use Rattle.network_words.proofs.Told.{Kept, unread, taken-refused, taken-done, taken-told}
@@ -50,7 +51,7 @@ start c = c .before .before .before .before .before .before .before .before .bef
 record Called (c : tie.After-take-due) : Type 0 where
   network : c .take-due .result .network ≡ networkAfter (call (start c)) (whole (start c)) (start c .args .journal .now)
   tells : countedOf (c .take-due .result .answer) ≡ counting (answer (start c)) (length (due (start c)))
-  out : c .take-due .last .1 .1 .0 ≡ written (journalAnswer (call (start c)) (start c .args .head .now) (start c .args .records .now) (start c .args .journal .now)) (wordsOf (due (start c))) (start c .args .out .now)
+  out : c .take-due .last .1 .1 .0 ≡ written (journalAnswer (call (start c)) (start c .args .head .now) (start c .args .records .now) (start c .args .journal .now)) (recordWords (due (start c))) (start c .args .out .now)
   words : c .take-due .last .1 .1 .1 .0 ≡ wordsAfter (call (start c)) (whole (start c)) (start c .args .journal .now)
 
 called : (c : tie.After-take-due) → Called c

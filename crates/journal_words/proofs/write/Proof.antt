@@ -1,8 +1,8 @@
 -- `journal_words::write` meets its contract: a well-formed network has good options. Assumes nothing.
 use mathlib.Core.Path.{refl, ap, _∙_}
 use Rattle.nights.specs.Net.{goodOptions}
-use Rattle.network.specs.declared.Head.{Head}
-use Rattle.network_fates.specs.Options.{plainOptions}
+use Rattle.network_form.specs.declared.Head.{Head}
+use Rattle.network_options.specs.Options.{plainOptions}
 use Rattle.network_words.specs.Layout.{headWords}
 use Rattle.network_words.proofs.InPlace.{formed-options}
 use borrow.Author.Needs.{needs}

@@ -7,7 +7,7 @@ use mathlib.Core.Path.{_≡_, sym, ap, _∙_}
 use Prim.Native.Nat.{ℕ, _/_, _≤_, _<_}
 use lib.Dec.{eqb}
 use lib.ListN.{length, length-replicate}
-use Rattle.script.specs.Scripts.{longest, strayLine, said, judged, answerOf, wordsGiven, wordsAfter}
+use Rattle.script.specs.Scripts.{longest, heldWords, strayLine, said, judged, answerOf, wordsGiven, wordsAfter}
 use Rattle.script.specs.declared.line.Refusal.{Refusal}
 use Rattle.script.specs.declared.line.Refusal.the-variants.{TooLong, NotAscii}
 use Rattle.script.specs.declared.Script.{Script}
@@ -60,10 +60,10 @@ returns-2 c =
     refused (a .text .now) (a .events .now) NotAscii (c .stray-line .result) (e ∙ ap (Refused NotAscii) (sym (c .stray-line .ensures)))
 
 slice-aggregate-read-script : tie.Need-slice-aggregate-read-script
-slice-aggregate-read-script c = sym (length-replicate {A = ℕ} 21843 0)
+slice-aggregate-read-script c = sym (length-replicate {A = ℕ} heldWords 0)
 
 read-script-requires : tie.Need-read-script-requires
-read-script-requires c κs = (c .before .before .before .before .if1 .left, le-of-eq (sym (length-replicate {A = ℕ} 21843 0)))
+read-script-requires c κs = (c .before .before .before .before .if1 .left, le-of-eq (sym (length-replicate {A = ℕ} heldWords 0)))
 
 same-length : tie.Need-same-length
 same-length c = c .before .before .before .read-script .kept .1 .0

@@ -6,9 +6,9 @@ use Prim.Native.Nat.{ℕ, _+_, _*_, _/_, _≤_, _<_, _^_}
 use lib.ListN.{length, take, drop, length-append, length-drop}
 use lib.Seq.{take-at, drop-at, length-take-le}
 use Rattle.basis.specs.Basis.{laid}
-use Rattle.order.specs.Order.{wordsOf, eventsIn, sorted}
+use Rattle.order.specs.Order.{mostSorted, scratchWords, wordsOf, eventsIn, sorted}
 use Rattle.order.proofs.Laws.{length-wordsOf, eventsIn-wordsOf}
-use Rattle.script.specs.Scripts.{said, eventsOf, judged, sortedEvents, wordsGiven}
+use Rattle.script.specs.Scripts.{longest, heldWords, said, eventsOf, judged, sortedEvents, wordsGiven}
 use Rattle.script.specs.declared.Script.{Script}
 use Rattle.script.specs.declared.Script.the-variants.{Events}
 use Rattle.script.proofs.Judging.{accepted}
@@ -20,9 +20,9 @@ use Rattle.script.proofs.read_script.Tie as tie
 record Counted (text words : List ℕ) (n : ℕ) : Type 0 where
   all : n ≡ length (eventsOf (said text))
   fits : 3 * n ≤ length words
-  most : n ≤ 7281
+  most : 3 * n ≤ heldWords
 
-counted : (text words : List ℕ) (n : ℕ) (r : Script) → length text ≤ 65536 → r ≡ judged (length words / 3) 1 0 (said text) → r ≡ Events n → Counted text words n
+counted : (text words : List ℕ) (n : ℕ) (r : Script) → length text ≤ longest → r ≡ judged (length words / 3) 1 0 (said text) → r ≡ Events n → Counted text words n
 counted text words n r short e q =
     let a = accepted (length words / 3) 1 0 n (said text) (sym e ∙ q) in
     let h = a .1 (omega arith) in
@@ -48,11 +48,11 @@ module _ (text words : List ℕ) (n : ℕ) (k : Counted text words n) where
   small : 3 * n < 2 ^ 64
   small = omega (arith, k .most)
 
-  held-fits : (held held′ : List ℕ) → 21843 ≤ length held → length held′ ≡ length held → length (take (3 * n) words) ≤ length held′
+  held-fits : (held held′ : List ℕ) → heldWords ≤ length held → length held′ ≡ length held → length (take (3 * n) words) ≤ length held′
   held-fits held held′ h e = omega (arith, length-take-le (3 * n) words (k .fits), k .most)
 
-  sort-asks : (held held′ front : List ℕ) → 21843 ≤ length held → length held′ ≡ length held → length front ≡ length (take (3 * n) words)
-      → (n ≤ 8192) × ((3 * n ≤ length (front ++ drop (3 * n) words)) × (12288 ≤ length held′))
+  sort-asks : (held held′ front : List ℕ) → heldWords ≤ length held → length held′ ≡ length held → length front ≡ length (take (3 * n) words)
+      → (n ≤ mostSorted) × ((3 * n ≤ length (front ++ drop (3 * n) words)) × (scratchWords ≤ length held′))
   sort-asks held held′ front h e f = (omega (arith, k .most), (omega (arith, as-long text words n k front f, k .fits), omega arith))
 
 -- ---- the places

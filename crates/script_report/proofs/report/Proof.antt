@@ -13,7 +13,7 @@ use Rattle.script.specs.Scripts.{refusalNumber, answerOf, sortedEvents, wordsAf
 use Rattle.script.specs.declared.line.Refusal.{Refusal}
 use Rattle.script.specs.declared.Script.the-variants.{Events, Refused}
 use Rattle.script.proofs.Laws.{events-counted}
-use Rattle.script_report.specs.Report.{numberLine, refusalKey, lineKey, listed, room, reportText, enough, reportOf, bytesAfter}
+use Rattle.script_report.specs.Report.{numberLine, refusalKey, lineKey, listed, eventRoom, reportText, enough, reportOf, bytesAfter}
 use Rattle.script_report.specs.declared.Reported.the-variants.{Written, NoRoom}
 use Rattle.script_report.proofs.Laying.{laid-two}
 use Rattle.script_report.proofs.Lengths.{decimal-most, number-line}
@@ -33,24 +33,24 @@ settled text out t r o h e f g =
     let z : 0 + length t ≡ length t = omega arith in
     (rw (le-leb enough (length out) h, e, f), rw (le-leb enough (length out) h, e, g, z))
 
-accepted-text : (text : List ℕ) (m : ℕ) → answerOf text room ≡ Events m → reportText text ≡ listed m (sortedEvents text)
+accepted-text : (text : List ℕ) (m : ℕ) → answerOf text eventRoom ≡ Events m → reportText text ≡ listed m (sortedEvents text)
 unfolding reportText
 accepted-text text m e = rw e
 
-refused-text : (text : List ℕ) (r : Refusal) (n : ℕ) → answerOf text room ≡ Refused r n → reportText text ≡ numberLine refusalKey (refusalNumber r) ++ numberLine lineKey n
+refused-text : (text : List ℕ) (r : Refusal) (n : ℕ) → answerOf text eventRoom ≡ Refused r n → reportText text ≡ numberLine refusalKey (refusalNumber r) ++ numberLine lineKey n
 unfolding reportText
 refused-text text r n e = rw e
 
 -- the words that the reader left hold the events
-given : (text : List ℕ) (m : ℕ) (w : List ℕ) → answerOf text room ≡ Events m → m ≡ length (sortedEvents text) → w ≡ wordsAfter text (replicate room 0)
+given : (text : List ℕ) (m : ℕ) (w : List ℕ) → answerOf text eventRoom ≡ Events m → m ≡ length (sortedEvents text) → w ≡ wordsAfter text (replicate eventRoom 0)
     → eventsIn (take (3 * m) w) ≡ sortedEvents text
 unfolding wordsAfter
 given text m w e n f =
     let es = sortedEvents text in
-    rw (f, length-replicate {A = ℕ} room 0, e, take-at (wordsOf es) (drop (3 * m) (replicate room 0)) (3 * m) (omega (arith, length-wordsOf es))) (eventsIn-wordsOf es)
+    rw (f, length-replicate {A = ℕ} eventRoom 0, e, take-at (wordsOf es) (drop (3 * m) (replicate eventRoom 0)) (3 * m) (omega (arith, length-wordsOf es))) (eventsIn-wordsOf es)
 
-answered : (c : tie.After-parse-script) → answerOf (c .before .before .before .before .before .args .text .now) room ≡ c .parse-script .result
-answered c = ap (answerOf (c .before .before .before .before .before .args .text .now)) (sym (length-replicate {A = ℕ} room 0)) ∙ sym (c .parse-script .ensures .0)
+answered : (c : tie.After-parse-script) → answerOf (c .before .before .before .before .before .args .text .now) eventRoom ≡ c .parse-script .result
+answered c = ap (answerOf (c .before .before .before .before .before .args .text .now)) (sym (length-replicate {A = ℕ} eventRoom 0)) ∙ sym (c .parse-script .ensures .0)
 
 returns : tie.Need-returns
 returns c =
@@ -74,7 +74,7 @@ put-events-requires c κs =
     let p = c .before .before .before .before .before .before in
     let a = p .before .before .before .before .before .args in
     let m = c .before .before .before .count .given in
-    let n = events-counted (a .text .now) room (m .0 .0) (answered p ∙ m .1) in
+    let n = events-counted (a .text .now) eventRoom (m .0 .0) (answered p ∙ m .1) in
     (omega (arith, n .1), omega (arith, n .1, p .parse-script .kept .1 .0), p .before .before .if1 .left)
 
 enum-known-refusal : tie.Need-enum-known-refusal
@@ -109,7 +109,7 @@ returns-2 c =
     let a = s .before .before .before .args in
     let m = c .before .before .before .before .before .before .count .given in
     let e = answered p ∙ m .1 in
-    let n = events-counted (a .text .now) room (m .0 .0) e in
+    let n = events-counted (a .text .now) eventRoom (m .0 .0) e in
     let w = given (a .text .now) (m .0 .0) (p .parse-script .last .1 .0) e (n .0) (p .parse-script .ensures .1) in
     let f = c .before .before .put-events in
     settled (a .text .now) (a .out .now) (listed (m .0 .0) (sortedEvents (a .text .now))) (f .result) (f .last .1 .1 .0) (s .if1 .left) (accepted-text (a .text .now) (m .0 .0) e)

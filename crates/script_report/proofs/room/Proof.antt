@@ -2,11 +2,12 @@
 use mathlib.Core.Path.{sym}
 use Prim.Native.Nat.{ℕ}
 use lib.ListN.{length-replicate}
+use Rattle.script_report.specs.Report.{enough}
 use Rattle.script_report.proofs.room.Statement.{statement}
 use Rattle.script_report.proofs.room.Tie as tie
 
 returns : tie.Need-returns
-returns c = sym (length-replicate {A = ℕ} 135196 0)
+returns c = sym (length-replicate {A = ℕ} enough 0)
 
 pub room-spec : {M : Type 1} → statement M
 room-spec = tie.close (tie.spec returns)

@@ -1,2 +1,0 @@
--- The definitions that the program's contracts cite.
-pub mod Input

@@ -1,0 +1,350 @@
+//! The programs, run as users run them: what no contract can say is how input comes in and output goes out. `faults` is run as
+//! it was built, and through the wrapper, which gives the exit status.
+
+use std::fs::{self, File};
+use std::io::{Read, Seek, SeekFrom, Write};
+use std::path::{Path, PathBuf};
+use std::process::{Command, Output, Stdio};
+use std::sync::Once;
+use std::thread::sleep;
+use std::time::Duration;
+
+const SAMPLE: &str = "20 heal-all\n5 crash 1 # east\n";
+const SAMPLE_SAYS: &str = "events=2\ntick=5\nfault=crash\nid=1\ntick=20\nfault=heal-all\n";
+
+const LONGEST: usize = 65_536;
+const MOST_EVENTS: usize = 2_048;
+
+fn root() -> PathBuf {
+    Path::new(env!("CARGO_MANIFEST_DIR"))
+        .join("../..")
+        .canonicalize()
+        .unwrap()
+}
+
+fn wrapper() -> PathBuf {
+    root().join("bellmantle")
+}
+
+/// The program itself, built by the wrapper if it is not there.
+fn faults() -> PathBuf {
+    static BUILT: Once = Once::new();
+    BUILT.call_once(|| {
+        let status = Command::new(wrapper())
+            .arg("faults")
+            .stdin(Stdio::null())
+            .stdout(Stdio::null())
+            .status()
+            .unwrap();
+        assert!(status.success(), "the program could not be built");
+    });
+    root().join("target/bin/faults")
+}
+
+/// The ways to a program: itself, and through the wrapper.
+fn both() -> [Command; 2] {
+    let mut wrapped = Command::new(wrapper());
+    wrapped.arg("faults");
+    [Command::new(faults()), wrapped]
+}
+
+/// Hands pieces to a program, with a pause before each but the first.
+fn fed(mut command: Command, pieces: &[&[u8]], pause: Duration) -> Output {
+    let mut child = command
+        .stdin(Stdio::piped())
+        .stdout(Stdio::piped())
+        .stderr(Stdio::piped())
+        .spawn()
+        .unwrap();
+    let mut input = child.stdin.take().unwrap();
+    for (place, piece) in pieces.iter().enumerate() {
+        if place > 0 {
+            sleep(pause);
+        }
+        // a program that has read enough may have gone
+        if input.write_all(piece).is_err() {
+            break;
+        }
+    }
+    drop(input);
+    child.wait_with_output().unwrap()
+}
+
+fn text(bytes: &[u8]) -> &str {
+    std::str::from_utf8(bytes).unwrap()
+}
+
+/// Sees that both ways write exactly this and nothing for a person, with this status through the wrapper.
+fn says(pieces: &[&[u8]], pause: Duration, expected: &str, status: i32) {
+    for (way, command) in both().into_iter().enumerate() {
+        let out = fed(command, pieces, pause);
+        assert_eq!(text(&out.stdout), expected);
+        assert_eq!(text(&out.stderr), "");
+        assert_eq!(out.status.code(), Some(if way == 0 { 0 } else { status }));
+    }
+}
+
+fn reads(script: &[u8], expected: &str) {
+    says(&[script], Duration::ZERO, expected, 0);
+}
+
+fn refuses(script: &[u8], number: u32, line: usize) {
+    let expected = format!("refusal={number}\nline={line}\n");
+    says(&[script], Duration::ZERO, &expected, 1);
+}
+
+/// A script of so many bytes whose last byte decides its only event's id.
+fn to_the_last_byte(bytes: usize) -> Vec<u8> {
+    let end = b"\n5 crash 12";
+    let mut script = vec![b'#'; bytes - end.len()];
+    script.extend_from_slice(end);
+    script
+}
+
+const ONE_EVENT: &str = "events=1\ntick=5\nfault=crash\nid=12\n";
+
+#[test]
+fn the_sample_of_the_rules() {
+    reads(SAMPLE.as_bytes(), SAMPLE_SAYS);
+}
+
+#[test]
+fn nothing_is_a_script_without_events() {
+    reads(b"", "events=0\n");
+}
+
+#[test]
+fn a_script_in_two_pieces() {
+    let pieces: [&[u8]; 2] = [b"20 heal-all\n5 crash 1", b"23 # east\n"];
+    let expected = SAMPLE_SAYS.replace("id=1\n", "id=123\n");
+    says(&pieces, Duration::from_millis(300), &expected, 0);
+}
+
+#[test]
+fn a_script_byte_by_byte() {
+    let pieces: Vec<&[u8]> = SAMPLE.as_bytes().chunks(1).collect();
+    says(&pieces, Duration::from_millis(3), SAMPLE_SAYS, 0);
+}
+
+#[test]
+fn the_longest_script_is_read_to_its_last_byte() {
+    reads(&to_the_last_byte(LONGEST), ONE_EVENT);
+    let script = to_the_last_byte(LONGEST);
+    let pieces: Vec<&[u8]> = script.chunks(LONGEST - 1).collect();
+    says(&pieces, Duration::from_millis(100), ONE_EVENT, 0);
+}
+
+#[test]
+fn a_byte_more_is_too_long() {
+    refuses(&to_the_last_byte(LONGEST + 1), 1, 0);
+    refuses(&to_the_last_byte(4 * LONGEST), 1, 0);
+    let script = to_the_last_byte(LONGEST + 1);
+    let pieces: Vec<&[u8]> = script.chunks(LONGEST).collect();
+    says(
+        &pieces,
+        Duration::from_millis(100),
+        "refusal=1\nline=0\n",
+        1,
+    );
+}
+
+#[test]
+fn every_refusal_with_its_line() {
+    refuses(&vec![b' '; LONGEST + 1], 1, 0);
+    refuses("5 crash 1\n6 crash 2 # Süd\n".as_bytes(), 2, 2);
+    refuses(b"\n\n5\n", 3, 3);
+    refuses(b"1,500 crash 1\n", 4, 1);
+    refuses(b"5 crash 1\n5 Crash 1\n", 5, 2);
+    refuses(b"5 crash # 1\n", 6, 1);
+    refuses(b"5 crash 1,5\n", 7, 1);
+    refuses(&b"0 heal 0\n".repeat(MOST_EVENTS + 1), 8, MOST_EVENTS + 1);
+}
+
+#[test]
+fn the_most_events_are_all_written() {
+    let script = b"18446744073709551615 partition 18446744073709551615\n";
+    let event = "tick=18446744073709551615\nfault=partition\nid=18446744073709551615\n";
+    // a text of the longest lines that fit
+    let count = LONGEST / script.len();
+    let expected = format!("events={count}\n{}", event.repeat(count));
+    reads(&script.repeat(count), &expected);
+    let expected = format!(
+        "events={MOST_EVENTS}\n{}",
+        "tick=0\nfault=heal\nid=0\n".repeat(MOST_EVENTS)
+    );
+    reads(&b"0 heal 0\n".repeat(MOST_EVENTS), &expected);
+}
+
+/// Sees that nothing is answered: no output, one line for a person that tells the reason, status 2 through the wrapper.
+fn tells(commands: [Command; 2], reason: &str) {
+    for (way, mut command) in commands.into_iter().enumerate() {
+        let out = command.stderr(Stdio::piped()).output().unwrap();
+        assert_eq!(text(&out.stdout), "");
+        assert!(
+            text(&out.stderr).contains(reason) && text(&out.stderr).lines().count() == 1,
+            "{:?} should tell: {reason}",
+            text(&out.stderr)
+        );
+        assert_eq!(out.status.code(), Some(if way == 0 { 0 } else { 2 }));
+    }
+}
+
+/// Both ways, each started by a shell with these redirections.
+fn redirected(redirections: &str) -> [Command; 2] {
+    both().map(|command| {
+        let mut shell = Command::new("sh");
+        shell
+            .arg("-c")
+            .arg(format!("exec \"$0\" \"$@\" {redirections}"));
+        shell.arg(command.get_program()).args(command.get_args());
+        shell.stdin(Stdio::null());
+        shell
+    })
+}
+
+#[test]
+fn an_input_that_cannot_be_read() {
+    tells(
+        redirected("</"),
+        "faults: standard input: Is a directory",
+    );
+    tells(
+        redirected("<&-"),
+        "faults: standard input: Bad file descriptor",
+    );
+}
+
+/// The memory of this process, at the last bytes before a gap: a read gives some bytes, and the next one fails.
+fn failing_after_some_bytes() -> File {
+    let maps = fs::read_to_string("/proc/self/maps").unwrap();
+    let range = |line: &str| -> Option<(u64, u64)> {
+        let (from, rest) = line.split_once('-')?;
+        let to = rest.split_once(' ')?.0;
+        Some((
+            u64::from_str_radix(from, 16).ok()?,
+            u64::from_str_radix(to, 16).ok()?,
+        ))
+    };
+    let lines: Vec<&str> = maps.lines().collect();
+    let end = lines
+        .windows(2)
+        .find_map(|pair| {
+            let (_, end) = range(pair[0])?;
+            let (next, _) = range(pair[1])?;
+            (pair[0].contains(" r") && end < next).then_some(end)
+        })
+        .expect("a readable mapping with a gap behind it");
+    let mut memory = File::open("/proc/self/mem").unwrap();
+    memory.seek(SeekFrom::Start(end - 16)).unwrap();
+    memory
+}
+
+#[test]
+fn an_input_that_fails_after_some_bytes() {
+    let mut some = [0; 64];
+    let mut memory = failing_after_some_bytes();
+    assert_eq!(memory.read(&mut some).unwrap(), 16);
+    assert!(memory.read(&mut some).is_err());
+    let commands = both().map(|mut command| {
+        command.stdin(failing_after_some_bytes());
+        command
+    });
+    tells(commands, "faults: standard input: Input/output error");
+}
+
+#[test]
+fn an_output_that_cannot_be_written() {
+    let reasons = [">/dev/full", ">&-"];
+    for redirections in reasons {
+        tells(redirected(redirections), "standard output: ");
+    }
+    let long = root().join("examples/night.txt");
+    let out = Command::new("sh")
+        .arg("-c")
+        .arg("exec \"$0\" faults \"$1\" >/dev/full")
+        .arg(wrapper())
+        .arg(long)
+        .output()
+        .unwrap();
+    assert_eq!(out.status.code(), Some(2));
+}
+
+/// A folder of its own for a test, with a script whose name has spaces, and a link to the wrapper.
+fn folder(name: &str) -> PathBuf {
+    let folder = Path::new(env!("CARGO_TARGET_TMPDIR")).join(name);
+    let _ = fs::remove_dir_all(&folder);
+    fs::create_dir_all(&folder).unwrap();
+    fs::write(folder.join("a night.txt"), SAMPLE).unwrap();
+    std::os::unix::fs::symlink(wrapper(), folder.join("linked")).unwrap();
+    folder
+}
+
+/// Runs a line of shell in a folder, with the wrapper as $0.
+fn shell(folder: &Path, line: &str) -> (i32, String, String) {
+    let out = Command::new("sh")
+        .args(["-c", line])
+        .arg(wrapper())
+        .current_dir(folder)
+        .stdin(Stdio::null())
+        .output()
+        .unwrap();
+    let said = |bytes: Vec<u8>| String::from_utf8(bytes).unwrap();
+    (
+        out.status.code().unwrap(),
+        said(out.stdout),
+        said(out.stderr),
+    )
+}
+
+#[test]
+fn the_wrapper_from_anywhere() {
+    faults();
+    let folder = folder("wrapper from anywhere");
+    let answered = (0, SAMPLE_SAYS.to_string(), String::new());
+    for line in [
+        "\"$0\" faults 'a night.txt'",
+        "\"$0\" faults <'a night.txt'",
+        "\"$0\" faults - <'a night.txt'",
+        "./linked faults 'a night.txt'",
+        "CDPATH=.:/ \"$0\" faults 'a night.txt'",
+        "CDPATH=.:/ ./linked faults 'a night.txt'",
+        "PATH=\"$PWD:$PATH\"; linked faults 'a night.txt'",
+        "set -e; \"$0\" faults 'a night.txt' | cat",
+    ] {
+        assert_eq!(shell(&folder, line), answered, "{line}");
+    }
+}
+
+#[test]
+fn the_wrapper_under_set_e() {
+    faults();
+    let folder = folder("wrapper under set e");
+    let (status, out, _) = shell(&folder, "set -e; echo 5 | \"$0\" faults; echo reached");
+    assert_eq!((status, out.as_str()), (1, "refusal=3\nline=1\n"));
+    let (status, out, _) = shell(
+        &folder,
+        "set -e; \"$0\" faults 'a night.txt' | grep -c fault=; echo reached",
+    );
+    assert_eq!((status, out.as_str()), (0, "2\nreached\n"));
+}
+
+#[test]
+fn wrong_use_of_the_wrapper() {
+    let folder = folder("wrong use of the wrapper");
+    for (line, reason) in [
+        ("\"$0\" faults missing.txt", "missing.txt: there is no such file"),
+        ("\"$0\" faults .", ".: it is a folder"),
+        ("\"$0\" faults a b", "one file at most"),
+        ("\"$0\" faults --quick", "no option --quick"),
+        ("\"$0\" fault", "there is no program 'fault'"),
+        ("\"$0\"", "usage: "),
+        ("\"$0\" --help >/dev/full", "standard output"),
+    ] {
+        let (status, out, said) = shell(&folder, line);
+        assert_eq!((status, out.as_str()), (2, ""), "{line}");
+        assert!(said.contains(reason), "{line}: {said}");
+    }
+    let (status, out, said) = shell(&folder, "\"$0\" --help");
+    assert_eq!((status, said.as_str()), (0, ""));
+    assert!(out.starts_with("usage: "));
+}
