@@ -20,7 +20,7 @@ use Rattle.network_options.specs.Options.{perfectOptions}
 use Rattle.network.specs.Forms.{plainOf, structOf, isFormed}
 use Rattle.network.specs.Calls.{firstNetwork}
 use Rattle.network.proofs.Structs.{plain-formed, plain-of-struct, struct-formed}
-use Rattle.network_options.proofs.OptionForms.{refused-bad}
+use Rattle.network_options.proofs.OptionForms.{tests-pass}
 use Rattle.journal_calls.specs.Calls.{stateOf, stepOf, networkAfter}
 use Rattle.journal.specs.Night.{Held, Turn, Settled, Marked, Made, Night, endOf, callsOf, entriesOf, evening, Demand3}
 
@@ -37,7 +37,7 @@ record Left (new : Plain) (after : Network) : Type 0 where
   formed : isFormed after ≡ true
 
 left : (a : Answer) (new : Plain) (old : Network) → wellFormed new ≡ true → isFormed old ≡ true
-    → ((k : ℕ) → a ≡ refused k → new ≡ plainOf old) → Left new (ifDone a new old)
+    → ((k : ℕ) → a ≡ refused k → new ≡ plainOf old) → Left new (ifDone a (structOf new) old)
 unfolding ifDone
 left done new old w f same = record { plain = plain-of-struct new w; formed = struct-formed new w }
 left (refused k) new old w f same = record { plain = sym (same k refl); formed = f }
@@ -121,12 +121,8 @@ night-same h s (t ∷ ts) e n =
 
 -- a fresh network of good options is the plain form's fresh network
 first-is : (o : Options) → goodOptions o ≡ true → firstNetwork o ≡ structOf (fresh o)
-unfolding firstNetwork firstBy
-first-is o good = go (verdict (optionTests o [])) refl
-  where
-    go : (a : Answer) → verdict (optionTests o []) ≡ a → firstBy a o ≡ structOf (fresh o)
-    go done e = refl
-    go (refused k) e = let x : false ≡ true = sym (refused-bad o k e) ∙ good in let z : _≡_ {A = ℕ} 0 1 = cc in absurd (omega arith)
+unfolding firstNetwork ifDone
+first-is o good = rw (tests-pass o good)
 
 evening-same : (o : Options) (rest : List ℕ) → goodOptions o ≡ true → Same (evening o rest) (start o rest)
 evening-same o rest good =

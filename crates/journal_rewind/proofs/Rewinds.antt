@@ -9,6 +9,7 @@ use Rattle.nights.specs.Tests.{done, refused, ifDone}
 use Rattle.nights.specs.Journal.{rewind, held, used, header, goodHeader, undoAll, rewound, doRewind, step}
 use Rattle.network.specs.declared.Network.{Network}
 use Rattle.network.specs.Forms.{plainOf, isFormed}
+use Rattle.network_queue.specs.Packed.{arraySize}
 use Rattle.network_options.proofs.OptionForms.{Held}
 use Rattle.network.proofs.Structs.{plain-formed, struct-of-plain}
 use Rattle.journal_undo.specs.declared.Undone.{Undone}
@@ -37,7 +38,7 @@ module _ (k : ℕ) (s : Network) (w : List ℕ) where
         unfolding stepOf step doRewind rewound undoneOf
         no-fit b = refused-by (rewind k) s w 31 (rw (f, plain-formed s f, g, le-leb k (held w) h, ← e, b))
 
-        pub went-back : u .fits ≡ true → isFormed (u .network) ≡ true → Held (u .network .options) → length (u .network .words) ≡ 1024
+        pub went-back : u .fits ≡ true → isFormed (u .network) ≡ true → Held (u .network .head .options) → length (u .network .words) ≡ arraySize
             → Met (rewind k) s w (u .network) done ((held w - k) ∷ u .start ∷ drop 2 w)
         unfolding stepOf step doRewind rewound undoneOf ifDone
         went-back b o a l =

@@ -11,7 +11,7 @@ use lib.Seq.{take-at, length-take-le, sets-eq}
 use Rattle.nights.specs.Record.{Record, recordWords}
 use Rattle.nights.specs.Net.{collect, keep, isDue, effect}
 use Rattle.basis.specs.Basis.{laid}
-use Rattle.nights.specs.Tests.{Answer, done, refused}
+use Rattle.nights.specs.Tests.{Answer, done, refused, ifDone}
 use Rattle.nights.specs.Journal.{undoWords}
 use Rattle.nights.proofs.Order.{length-split}
 use Rattle.nights.proofs.Undo.{length-recordWords}
@@ -56,7 +56,7 @@ module _ (s : Network) (now room : ℕ) where
 
   few-due : isFormed s ≡ true → 8 * length dueNow ≤ 1024
   few-due f =
-      omega (arith, small s f, length-split (isDue now) (plainOf s .pending), length-recs (s .words) 0 (s .pending))
+      omega (arith, small s f, length-split (isDue now) (plainOf s .pending), length-recs (s .words) 0 (s .head .pending))
 
   -- made to 1,024 words it is refused only if the network is ill formed, and then with any room
   pub own-refused : (k : ℕ) → callAnswer (collect now 1024) s ≡ refused k → callAnswer (collect now room) s ≡ refused k
@@ -97,7 +97,7 @@ module _ (s : Network) (now room : ℕ) where
       size = omega (arith, length-recordWords dueNow)
 
       last-is : last ≡ recordWords dueNow ++ drop (length (recordWords dueNow)) own
-      unfolding written
+      unfolding ifDone
       last-is = rw e at w
 
       pub length-last : length last ≡ 1024

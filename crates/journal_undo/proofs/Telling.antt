@@ -30,7 +30,7 @@ told-misfit u f h e = (rw (h .0, e), rw (h .1) f)
 
 -- what `pending` answers tells whether a network is well formed
 module _ (s : Network) (n k : ℕ) where
-  pub ill-told : counting (formAnswer s) n ≡ record { answer = refused k; records = 0 } → isFormed s ≡ false
+  pub ill-told : counting (formAnswer (s .head) (s .words)) n ≡ record { answer = refused k; records = 0 } → isFormed s ≡ false
   unfolding counting
   ill-told e = go (isFormed s) refl
     where
@@ -38,7 +38,7 @@ module _ (s : Network) (n k : ℕ) where
       go true h = let a = ap (λ (r : Count). r .answer) (rw (form-well s h) at e) in let z : _≡_ {A = ℕ} 0 1 = cc in absurd (omega arith)
       go false h = refl
 
-  pub well-told : counting (formAnswer s) n ≡ record { answer = done; records = k } → isFormed s ≡ true
+  pub well-told : counting (formAnswer (s .head) (s .words)) n ≡ record { answer = done; records = k } → isFormed s ≡ true
   unfolding counting
   well-told e = go (isFormed s) refl
     where

@@ -72,6 +72,14 @@ module _ (o : Options) where
       go true false c p q r h = let z : _≡_ {A = ℕ} 0 1 = cc in absurd (omega arith)
       go false b c p q r h = let z : _≡_ {A = ℕ} 0 1 = cc in absurd (omega arith)
 
+  -- and good ones pass them all
+  pub tests-pass : goodOptions o ≡ true → verdict (optionTests o []) ≡ done
+  unfolding verdict goodOptions
+  tests-pass e =
+      let a = both (goodWord (o .loss)) _ e in
+      let b = both (goodWord (o .replay)) _ (a .1) in
+      rw (a .0, b .0, b .1)
+
 -- both probabilities of good options are good
 pub good-chances : (o : NetworkOptions) → goodOptions (plainOptions o) ≡ true
     → (goodProbability (o .«packet_loss_probability») ≡ true) × (goodProbability (o .«packet_replay_probability») ≡ true)

@@ -41,7 +41,7 @@ module _ (c : tie.Else1) where
 
 -- the network that the undoing left is one of the code
 module _ (c : tie.After-struct-known) where
-  held : Held (c .before .undo-all .result .network .options)
+  held : Held (c .before .undo-all .result .network .head .options)
   held = record { loss = search needs; replay = search needs }
 
   long : length (c .before .undo-all .result .network .words) ≡ 1024

@@ -9,7 +9,7 @@ use lib.Seq.{length-take-le}
 use Rattle.nights.specs.Record.{Record, recordWords}
 use Rattle.nights.specs.Net.{Change, collect, keep, isDue}
 use Rattle.basis.specs.Basis.{laid}
-use Rattle.nights.specs.Tests.{Answer, done, verdict}
+use Rattle.nights.specs.Tests.{Answer, done, verdict, ifDone}
 use Rattle.nights.specs.Journal.{logged, undoWords, journalTests}
 use Rattle.network.specs.declared.Network.{Network}
 use Rattle.network_options.specs.Answers.{settledOf}
@@ -115,7 +115,7 @@ enum-told : tie.Need-enum-told
 enum-told c = search needs
 
 returns : tie.Need-returns
-unfolding counting written
+unfolding counting ifDone
 returns c =
     let p = c .before .before .before in
     let n = p .take-due .ensures in
@@ -133,7 +133,7 @@ refused-take-requires : tie.Need-refused-take-requires
 refused-take-requires c κs = search needs
 
 returns-2 : tie.Need-returns-2
-unfolding counting written
+unfolding counting ifDone
 returns-2 c =
     let k = c .before .before in
     let p = plain k in
@@ -203,7 +203,7 @@ same-length-2 : tie.Need-same-length-2
 same-length-2 c = search needs
 
 returns-3 : tie.Need-returns-3
-unfolding written
+unfolding ifDone
 returns-3 c =
     let q = c .before .before .before .before .before .before .before .before .before .before in
     let k = known q in
@@ -231,7 +231,7 @@ same-length-3 : tie.Need-same-length-3
 same-length-3 c = search needs
 
 returns-4 : tie.Need-returns-4
-unfolding counting written
+unfolding counting ifDone
 returns-4 c =
     let q = c .before .before .before .before in
     let k = q .before .before .before in
