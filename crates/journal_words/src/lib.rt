@@ -6,6 +6,9 @@ use network_form::Head;
 use network::Network;
 use network_send::SendAnswer;
 use network_options::NetworkOptions;
+use network_queue::WORDS;
+use network_words::HEAD_WORDS;
+use network_words::ILL_FORMED;
 use network_options::Settled;
 ghost use mathlib.Core.Path.{_≡_};
 ghost use mathlib.Core.Bool.{true};
@@ -18,14 +21,14 @@ ghost use Rattle.nights.specs.Net.{keep, isDue};
 ghost use Rattle.nights.specs.Draws.{decided};
 ghost use Rattle.nights.specs.Journal.{rewind};
 ghost use Rattle.network_options.specs.Answers.{settledOf};
-ghost use Rattle.network.specs.Forms.{plainOf, isFormed, headOf, joined};
+ghost use Rattle.network.specs.Forms.{plainOf, isFormed};
 ghost use Rattle.network_options.specs.Options.{structOptions};
 ghost use Rattle.network_form.specs.Calls.{written};
-ghost use Rattle.network_words.specs.Layout.{optionsFrom, networkIn, headWords};
+ghost use Rattle.network_words.specs.Layout.{optionsFrom, headWords};
+ghost use Rattle.journal_words.specs.Calls.{joined, networkIn, journalAnswer, journalHead, journalRecords, journalWords};
 ghost use Rattle.network_words.specs.Calls.{numberOf, sendTold};
 ghost use Rattle.nights.specs.Tests.{ifDone};
 ghost use Rattle.journal_calls.specs.Calls.{sends, takes, chooses, markAnswer, markWords};
-ghost use Rattle.journal_words.specs.Calls.{journalAnswer, journalHead, journalRecords, journalWords};
 
 // The number of a call that has nothing more to tell.
 fn settled_number(answer: Settled) -> u64
@@ -38,17 +41,20 @@ fn settled_number(answer: Settled) -> u64
 }
 
 // The network of a head and its records.
-fn read(head: Head, records: &[u64; 1024]) -> Network
+fn read(head: Head, records: &[u64; WORDS]) -> Network
     ensures { λ r. ⌜ r ≡ joined head (now (records .entry)) ⌝ }
 {
     let words = *records;
-    head.with(words)
+    Network {
+        head: head,
+        words: words,
+    }
 }
 
 // The words of a well-formed network.
-fn write(network: Network, head: &mut [u64; 12], records: &mut [u64; 1024])
+fn write(network: Network, head: &mut [u64; HEAD_WORDS], records: &mut [u64; WORDS])
     requires { ⌜ isFormed network ≡ true ⌝ }
-    ensures head { λ _. ⌜ now (head .exit) ≡ headWords (headOf network) ⌝ }
+    ensures head { λ _. ⌜ now (head .exit) ≡ headWords (network .head) ⌝ }
     ensures records { λ _. ⌜ now (records .exit) ≡ network .words ⌝ }
 {
     network_words::store(network.head, head);
@@ -66,8 +72,8 @@ pub fn mark(journal: &mut [u64]) -> u64
 
 // A journaled send.
 pub fn send(
-    head: &mut [u64; 12],
-    records: &mut [u64; 1024],
+    head: &mut [u64; HEAD_WORDS],
+    records: &mut [u64; WORDS],
     now: u64,
     sort: u64,
     origin: u64,
@@ -87,7 +93,7 @@ pub fn send(
 {
     let loaded = network_words::load(head);
     if !loaded.fits {
-        return network_words::ILL_FORMED;
+        return ILL_FORMED;
     }
     let network = read(loaded.head, records);
     let sent = journal_send::send(
@@ -125,8 +131,8 @@ pub fn send(
 
 // A journaled take.
 pub fn take_due(
-    head: &mut [u64; 12],
-    records: &mut [u64; 1024],
+    head: &mut [u64; HEAD_WORDS],
+    records: &mut [u64; WORDS],
     now: u64,
     out: &mut [u64],
     journal: &mut [u64],
@@ -141,7 +147,7 @@ pub fn take_due(
 {
     let loaded = network_words::load(head);
     if !loaded.fits {
-        return network_words::ILL_FORMED;
+        return ILL_FORMED;
     }
     let network = read(loaded.head, records);
     let taken = journal_take::take_due(network, now, out, journal);
@@ -172,8 +178,8 @@ fn options_of(loss: u64, replay: u64, min: u64, mean: u64, flag: u64) -> Network
 
 // A journaled change of the options.
 pub fn set_options(
-    head: &mut [u64; 12],
-    records: &[u64; 1024],
+    head: &mut [u64; HEAD_WORDS],
+    records: &[u64; WORDS],
     loss: u64,
     replay: u64,
     min: u64,
@@ -187,11 +193,11 @@ pub fn set_options(
 {
     let loaded = network_words::load(head);
     if !loaded.fits {
-        return network_words::ILL_FORMED;
+        return ILL_FORMED;
     }
     network_queue::whole(records);
     if !network_form::formed(records, loaded.head) {
-        return network_words::ILL_FORMED;
+        return ILL_FORMED;
     }
     let number = network_words::options_number(loss, replay, min, mean);
     if number != 0 {
@@ -210,7 +216,7 @@ pub fn set_options(
 }
 
 // Goes back over the last k calls held.
-pub fn rewind(head: &mut [u64; 12], records: &mut [u64; 1024], k: u64, journal: &mut [u64]) -> u64
+pub fn rewind(head: &mut [u64; HEAD_WORDS], records: &mut [u64; WORDS], k: u64, journal: &mut [u64]) -> u64
     ensures answer { λ r. ⌜ r ≡ numberOf (journalAnswer (rewind k) (now (head .entry)) (now (records .entry)) (now (journal .entry))) ⌝ }
     ensures head { λ _. ⌜ now (head .exit) ≡ journalHead (rewind k) (now (head .entry)) (now (records .entry)) (now (journal .entry)) ⌝ }
     ensures records { λ _. ⌜ now (records .exit) ≡ journalRecords (rewind k) (now (head .entry)) (now (records .entry)) (now (journal .entry)) ⌝ }
@@ -218,7 +224,7 @@ pub fn rewind(head: &mut [u64; 12], records: &mut [u64; 1024], k: u64, journal: 
 {
     let loaded = network_words::load(head);
     if !loaded.fits {
-        return network_words::ILL_FORMED;
+        return ILL_FORMED;
     }
     let network = read(loaded.head, records);
     let next = journal_rewind::rewind(network, k, journal);

@@ -5,10 +5,11 @@ use mathlib.Core.Bool.{true, false}
 use Prim.Native.Nat.{ℕ, _*_, _≤_, _<_}
 use lib.ListN.{length}
 use Rattle.nights.specs.Record.{recordSize}
-use Rattle.nights.specs.Net.{capacity, Plain, Change, collect, effect, wellFormed}
+use Rattle.nights.specs.Net.{capacity, Plain, Change, collect, goodOptions, effect, wellFormed}
 use Rattle.nights.specs.Draws.{fateOf}
 use Rattle.nights.specs.Tests.{done, refused, verdict, tests}
 use Rattle.network_queue.specs.Packed.{arraySize}
+use Rattle.network_options.specs.Options.{plainOptions}
 use Rattle.network_options.proofs.OptionForms.{Held}
 use Rattle.network_form.specs.Calls.{formAnswer}
 use Rattle.network_form.proofs.Maps as Maps
@@ -28,6 +29,10 @@ module _ (s : Network) (f : isFormed s ≡ true) where
 
   pub small : s .head .pending ≤ capacity
   small = Maps.small (s .head) (s .words) f
+
+  -- its options are good
+  pub formed-options : goodOptions (plainOptions (s .head .options)) ≡ true
+  formed-options = Maps.good-in (s .head) (s .words) f
 
   -- the struct of its plain form is that struct
   pub struct-of-plain : Held (s .head .options) → length (s .words) ≡ arraySize → structOf (plainOf s) ≡ s

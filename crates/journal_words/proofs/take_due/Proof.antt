@@ -12,13 +12,14 @@ use Rattle.nights.specs.Journal.{Call}
 use Rattle.network_form.specs.declared.Head.{Head}
 use Rattle.network.specs.declared.Network.{Network}
 use Rattle.network_take.specs.Takes.{countedOf, counting}
-use Rattle.network.specs.Forms.{plainOf, joined}
+use Rattle.network.specs.Forms.{plainOf}
 use Rattle.network_form.specs.Calls.{written}
 use Rattle.journal_calls.specs.Calls.{takes, answerOf, networkAfter, wordsAfter}
-use Rattle.network_words.specs.Layout.{headFits, networkIn}
+use Rattle.network_words.specs.Layout.{headFits}
+use Rattle.journal_words.specs.Calls.{networkIn, journalAnswer, joined}
 use Rattle.network_words.proofs.Heads.{told-fits, head-read, a-head}
-use Rattle.network_words.proofs.Told.{Kept, unread, taken-refused, taken-done, taken-told}
-use Rattle.journal_words.specs.Calls.{journalAnswer}
+use Rattle.journal_words.proofs.Told.{Kept, unread}
+use Rattle.network_words.proofs.Told.{taken-refused, taken-done, taken-told}
 use Rattle.journal_words.proofs.After.{Left, left, Written, wrote}
 use borrow.Author.Needs.{needs}
 use Rattle.journal_words.proofs.take_due.Statement.{statement}
@@ -74,7 +75,7 @@ returns c =
     let b = c .before .before .before .before .before .before in
     let k : Kept (journalAnswer (call b) (b .args .head .now) (b .args .records .now) (b .args .journal .now)) 23 =
     unread _ (answer b) (told-fits _ _ (c .before .before .load .ensures) false (not-true _ (c .if1 .taken))) in
-    (k .number, (k .words _ _, (k .words _ _, (k .out _ _, (k .words _ _, k .words _ _)))))
+    (k .number, (k .words _ _, (k .words _ _, (k .words _ _, (k .words _ _, k .words _ _)))))
 
 read-requires : tie.Need-read-requires
 read-requires c κs = search needs
