@@ -1,9 +1,9 @@
 // A rewind: the network from before the last k calls that the journal holds, from their records alone. Any words may be lent.
-use network_take::Counted;
 use network::Network;
 use network::Next;
 use network_options::Refusal;
 use network_options::Settled;
+use network_take::Counted;
 ghost use mathlib.Core.Path.{_≡_};
 ghost use Rattle.nights.specs.Journal.{rewind};
 ghost use Rattle.nights.specs.Tests.{done, refused};

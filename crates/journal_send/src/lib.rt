@@ -1,8 +1,8 @@
 // A journaled send: the plain send, with a record of the numbers before it behind the journal's others. Any words may be lent.
 use network::Network;
-use network_send::SendAnswer;
 use network::Sent;
 use network_options::Settled;
+use network_send::SendAnswer;
 ghost use mathlib.Core.Path.{_≡_};
 ghost use Rattle.nights.specs.Draws.{decided};
 ghost use Rattle.network_send.specs.Sends.{sentOf, sending};

@@ -1,9 +1,9 @@
 // A journaled take: the plain take, with a record of what was taken behind the journal's others. Any words may be lent.
-use network_take::Counted;
 use network::Network;
 use network::Taken;
 use network_options::Refusal;
 use network_options::Settled;
+use network_take::Counted;
 ghost use mathlib.Core.Path.{_≡_};
 ghost use lib.ListN.{length};
 ghost use Rattle.nights.specs.Record.{recordWords};

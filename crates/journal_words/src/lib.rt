@@ -1,15 +1,15 @@
 // The journal over lent words: a network's head and records as in `network_words`, and the journal's own words. A call answers 0, or
 // the number of its refusal; then no lent word is changed, those lent for the answer included. The network is read into a value and
 // written back, since a journaled call can still be refused once its network is known.
-use network_take::Counted;
-use network_form::Head;
 use network::Network;
-use network_send::SendAnswer;
+use network_form::Head;
 use network_options::NetworkOptions;
+use network_options::Settled;
 use network_queue::WORDS;
+use network_send::SendAnswer;
+use network_take::Counted;
 use network_words::HEAD_WORDS;
 use network_words::ILL_FORMED;
-use network_options::Settled;
 ghost use mathlib.Core.Path.{_≡_};
 ghost use mathlib.Core.Bool.{true};
 ghost use mathlib.Core.List.{[], _∷_};
@@ -85,11 +85,17 @@ pub fn send(
     journal: &mut [u64],
     told: &mut [u64; 4],
 ) -> u64
-    ensures answer { λ r. ⌜ r ≡ numberOf (journalAnswer (sends now sort origin to kind handle (draws .entry .now) (extras .entry .now)) (head .entry .now) (records .entry .now) (journal .entry .now)) ⌝ }
-    ensures head { λ _. ⌜ head .exit .now ≡ journalHead (sends now sort origin to kind handle (draws .entry .now) (extras .entry .now)) (head .entry .now) (records .entry .now) (journal .entry .now) ⌝ }
-    ensures records { λ _. ⌜ records .exit .now ≡ journalRecords (sends now sort origin to kind handle (draws .entry .now) (extras .entry .now)) (head .entry .now) (records .entry .now) (journal .entry .now) ⌝ }
-    ensures journal { λ _. ⌜ journal .exit .now ≡ journalWords (sends now sort origin to kind handle (draws .entry .now) (extras .entry .now)) (head .entry .now) (records .entry .now) (journal .entry .now) ⌝ }
-    ensures told { λ _. ⌜ told .exit .now ≡ ifDone (journalAnswer (sends now sort origin to kind handle (draws .entry .now) (extras .entry .now)) (head .entry .now) (records .entry .now) (journal .entry .now)) (sendTold (decided (plainOf (networkIn (head .entry .now) (records .entry .now)) .options) now kind (draws .entry .now) (extras .entry .now))) (told .entry .now) ⌝ }
+    ensures answer { λ r. ⌜ r
+        ≡ numberOf (journalAnswer (sends now sort origin to kind handle (draws .entry .now) (extras .entry .now)) (head .entry .now) (records .entry .now) (journal .entry .now)) ⌝ }
+    ensures head { λ _. ⌜ head .exit .now
+        ≡ journalHead (sends now sort origin to kind handle (draws .entry .now) (extras .entry .now)) (head .entry .now) (records .entry .now) (journal .entry .now) ⌝ }
+    ensures records { λ _. ⌜ records .exit .now
+        ≡ journalRecords (sends now sort origin to kind handle (draws .entry .now) (extras .entry .now)) (head .entry .now) (records .entry .now) (journal .entry .now) ⌝ }
+    ensures journal { λ _. ⌜ journal .exit .now
+        ≡ journalWords (sends now sort origin to kind handle (draws .entry .now) (extras .entry .now)) (head .entry .now) (records .entry .now) (journal .entry .now) ⌝ }
+    ensures told { λ _. ⌜ told .exit .now
+        ≡ ifDone (journalAnswer (sends now sort origin to kind handle (draws .entry .now) (extras .entry .now)) (head .entry .now) (records .entry .now) (journal .entry .now))
+        (sendTold (decided (plainOf (networkIn (head .entry .now) (records .entry .now)) .options) now kind (draws .entry .now) (extras .entry .now))) (told .entry .now) ⌝ }
 {
     let loaded = network_words::load(head);
     if !loaded.fits {
@@ -141,9 +147,13 @@ pub fn take_due(
     ensures answer { λ r. ⌜ r ≡ numberOf (journalAnswer (takes now (length (out .entry .now))) (head .entry .now) (records .entry .now) (journal .entry .now)) ⌝ }
     ensures head { λ _. ⌜ head .exit .now ≡ journalHead (takes now (length (out .entry .now))) (head .entry .now) (records .entry .now) (journal .entry .now) ⌝ }
     ensures records { λ _. ⌜ records .exit .now ≡ journalRecords (takes now (length (out .entry .now))) (head .entry .now) (records .entry .now) (journal .entry .now) ⌝ }
-    ensures out { λ _. ⌜ out .exit .now ≡ written (journalAnswer (takes now (length (out .entry .now))) (head .entry .now) (records .entry .now) (journal .entry .now)) (recordWords (keep (isDue now) (plainOf (networkIn (head .entry .now) (records .entry .now)) .pending))) (out .entry .now) ⌝ }
+    ensures out { λ _. ⌜ out .exit .now
+        ≡ written (journalAnswer (takes now (length (out .entry .now))) (head .entry .now) (records .entry .now) (journal .entry .now))
+        (recordWords (keep (isDue now) (plainOf (networkIn (head .entry .now) (records .entry .now)) .pending))) (out .entry .now) ⌝ }
     ensures journal { λ _. ⌜ journal .exit .now ≡ journalWords (takes now (length (out .entry .now))) (head .entry .now) (records .entry .now) (journal .entry .now) ⌝ }
-    ensures told { λ _. ⌜ told .exit .now ≡ ifDone (journalAnswer (takes now (length (out .entry .now))) (head .entry .now) (records .entry .now) (journal .entry .now)) (length (keep (isDue now) (plainOf (networkIn (head .entry .now) (records .entry .now)) .pending)) ∷ []) (told .entry .now) ⌝ }
+    ensures told { λ _. ⌜ told .exit .now
+        ≡ ifDone (journalAnswer (takes now (length (out .entry .now))) (head .entry .now) (records .entry .now) (journal .entry .now))
+        (length (keep (isDue now) (plainOf (networkIn (head .entry .now) (records .entry .now)) .pending)) ∷ []) (told .entry .now) ⌝ }
 {
     let loaded = network_words::load(head);
     if !loaded.fits {
@@ -216,7 +226,12 @@ pub fn set_options(
 }
 
 // Goes back over the last k calls held.
-pub fn rewind(head: &mut [u64; HEAD_WORDS], records: &mut [u64; WORDS], k: u64, journal: &mut [u64]) -> u64
+pub fn rewind(
+    head: &mut [u64; HEAD_WORDS],
+    records: &mut [u64; WORDS],
+    k: u64,
+    journal: &mut [u64],
+) -> u64
     ensures answer { λ r. ⌜ r ≡ numberOf (journalAnswer (rewind k) (now (head .entry)) (now (records .entry)) (now (journal .entry))) ⌝ }
     ensures head { λ _. ⌜ now (head .exit) ≡ journalHead (rewind k) (now (head .entry)) (now (records .entry)) (now (journal .entry)) ⌝ }
     ensures records { λ _. ⌜ now (records .exit) ≡ journalRecords (rewind k) (now (head .entry)) (now (records .entry)) (now (journal .entry)) ⌝ }
