@@ -2,20 +2,19 @@
 // lent words; a call returns 0, or the number of its refusal, and on a refusal no lent word changes. include/bellmantle.h declares each
 // function, each word of each layout and each number.
 ghost use mathlib.Core.Path.{_≡_};
-ghost use mathlib.Core.Bool.{not};
 ghost use mathlib.Core.List.{[], _∷_};
-ghost use lib.Dec.{eqb};
-ghost use lib.ListN.{length, replicate};
+ghost use lib.ListN.{length};
 ghost use Rattle.script.specs.Scripts.{scriptAnswer, scriptWords};
-ghost use Rattle.nights.specs.Record.{wordsOf};
-ghost use Rattle.basis.specs.Basis.{bit};
-ghost use Rattle.nights.specs.Net.{keep, isDue, send, take, choose};
+ghost use Rattle.nights.specs.Record.{recordWords};
 ghost use Rattle.nights.specs.Draws.{decided};
-ghost use Rattle.nights.specs.Journal.{verdict, optionTests, rewind};
-ghost use Rattle.network.specs.Forms.{plainOf, letterOf};
-ghost use Rattle.network.specs.Calls.{written};
-ghost use Rattle.network_words.specs.Layout.{optionsFrom, networkIn};
-ghost use Rattle.network_words.specs.Calls.{numberOf, onDone, answerIn, headAfter, recordsAfter, sendTold, formIn, listIn};
+ghost use Rattle.nights.specs.Tests.{ifDone};
+ghost use Rattle.nights.specs.Journal.{rewind};
+ghost use Rattle.network_form.specs.Forms.{plainIn};
+ghost use Rattle.network_form.specs.Calls.{written};
+ghost use Rattle.network_send.specs.Sends.{letterOf};
+ghost use Rattle.network_take.specs.Takes.{dueIn};
+ghost use Rattle.network_words.specs.Layout.{headIn, optionsFrom};
+ghost use Rattle.network_words.specs.Calls.{numberOf, sendTold, newRows, optionRows, sendRows, takeRows, countRows, listRows};
 ghost use Rattle.network_batch.specs.Ticks.{ticked};
 ghost use Rattle.journal_calls.specs.Calls.{sends, takes, chooses, markAnswer, markWords};
 ghost use Rattle.journal_words.specs.Calls.{journalAnswer, journalHead, journalRecords, journalWords};
@@ -43,17 +42,17 @@ pub extern "C" fn bellmantle_parse_script(text: &[u8], events: &mut [u64]) -> u6
 // A fresh network of these options; the flag is no for 0 and yes otherwise.
 #[no_mangle]
 pub extern "C" fn bellmantle_network_new(
-    head: &mut [u64; 12],
-    records: &mut [u64; 1024],
+    head: &mut [u64; network_words::HEAD_WORDS],
+    records: &mut [u64; network_queue::WORDS],
     loss: u64,
     replay: u64,
     min: u64,
     mean: u64,
     flag: u64,
 ) -> u64
-    ensures answer { λ r. ⌜ r ≡ numberOf (verdict (optionTests (optionsFrom loss replay min mean flag) [])) ⌝ }
-    ensures head { λ _. ⌜ now (head .exit) ≡ onDone (verdict (optionTests (optionsFrom loss replay min mean flag) [])) (loss ∷ replay ∷ min ∷ mean ∷ bit (not (eqb flag 0)) ∷ replicate 7 0) (now (head .entry)) ⌝ }
-    ensures records { λ _. ⌜ now (records .exit) ≡ onDone (verdict (optionTests (optionsFrom loss replay min mean flag) [])) (replicate 1024 0) (now (records .entry)) ⌝ }
+    ensures answer { λ r. ⌜ r ≡ newRows (now (head .entry)) (now (records .entry)) (optionsFrom loss replay min mean flag) .number ⌝ }
+    ensures head { λ _. ⌜ now (head .exit) ≡ newRows (now (head .entry)) (now (records .entry)) (optionsFrom loss replay min mean flag) .head ⌝ }
+    ensures records { λ _. ⌜ now (records .exit) ≡ newRows (now (head .entry)) (now (records .entry)) (optionsFrom loss replay min mean flag) .records ⌝ }
 {
     network_words::new(head, records, loss, replay, min, mean, flag)
 }
@@ -61,16 +60,16 @@ pub extern "C" fn bellmantle_network_new(
 // Replaces the options.
 #[no_mangle]
 pub extern "C" fn bellmantle_network_set_options(
-    head: &mut [u64; 12],
-    records: &[u64; 1024],
+    head: &mut [u64; network_words::HEAD_WORDS],
+    records: &[u64; network_queue::WORDS],
     loss: u64,
     replay: u64,
     min: u64,
     mean: u64,
     flag: u64,
 ) -> u64
-    ensures answer { λ r. ⌜ r ≡ numberOf (answerIn (choose (optionsFrom loss replay min mean flag)) (now (head .entry)) (now (records .entry))) ⌝ }
-    ensures head { λ _. ⌜ now (head .exit) ≡ headAfter (choose (optionsFrom loss replay min mean flag)) (now (head .entry)) (now (records .entry)) ⌝ }
+    ensures answer { λ r. ⌜ r ≡ optionRows (now (head .entry)) (now (records .entry)) (optionsFrom loss replay min mean flag) .number ⌝ }
+    ensures head { λ _. ⌜ now (head .exit) ≡ optionRows (now (head .entry)) (now (records .entry)) (optionsFrom loss replay min mean flag) .head ⌝ }
 {
     network_words::set_options(head, records, loss, replay, min, mean, flag)
 }
@@ -78,8 +77,8 @@ pub extern "C" fn bellmantle_network_set_options(
 // Accepts a message sent at tick `now`: whether it was lost, whether it was replayed, and the draws and extras used are told.
 #[no_mangle]
 pub extern "C" fn bellmantle_network_send(
-    head: &mut [u64; 12],
-    records: &mut [u64; 1024],
+    head: &mut [u64; network_words::HEAD_WORDS],
+    records: &mut [u64; network_queue::WORDS],
     now: u64,
     sort: u64,
     origin: u64,
@@ -90,40 +89,40 @@ pub extern "C" fn bellmantle_network_send(
     extras: &[u64],
     told: &mut [u64; 4],
 ) -> u64
-    ensures answer { λ r. ⌜ r ≡ numberOf (answerIn (send (letterOf now sort origin to kind handle) (draws .entry .now) (extras .entry .now)) (head .entry .now) (records .entry .now)) ⌝ }
-    ensures head { λ _. ⌜ head .exit .now ≡ headAfter (send (letterOf now sort origin to kind handle) (draws .entry .now) (extras .entry .now)) (head .entry .now) (records .entry .now) ⌝ }
-    ensures records { λ _. ⌜ records .exit .now ≡ recordsAfter (send (letterOf now sort origin to kind handle) (draws .entry .now) (extras .entry .now)) (head .entry .now) (records .entry .now) ⌝ }
-    ensures told { λ _. ⌜ told .exit .now ≡ onDone (answerIn (send (letterOf now sort origin to kind handle) (draws .entry .now) (extras .entry .now)) (head .entry .now) (records .entry .now)) (sendTold (decided (plainOf (networkIn (head .entry .now) (records .entry .now)) .options) now kind (draws .entry .now) (extras .entry .now))) (told .entry .now) ⌝ }
+    ensures answer { λ r. ⌜ r ≡ sendRows (head .entry .now) (records .entry .now) (letterOf now sort origin to kind handle)
+        (draws .entry .now) (extras .entry .now) (told .entry .now) .number ⌝ }
+    ensures head { λ _. ⌜ head .exit .now ≡ sendRows (head .entry .now) (records .entry .now) (letterOf now sort origin to kind handle)
+        (draws .entry .now) (extras .entry .now) (told .entry .now) .head ⌝ }
+    ensures records { λ _. ⌜ records .exit .now ≡ sendRows (head .entry .now) (records .entry .now) (letterOf now sort origin to kind handle)
+        (draws .entry .now) (extras .entry .now) (told .entry .now) .records ⌝ }
+    ensures told { λ _. ⌜ told .exit .now ≡ sendRows (head .entry .now) (records .entry .now) (letterOf now sort origin to kind handle)
+        (draws .entry .now) (extras .entry .now) (told .entry .now) .told ⌝ }
 {
-    network_words::send(
-        head,
-        records,
-        now,
-        sort,
-        origin,
-        to,
-        kind,
-        handle,
-        draws,
-        extras,
-        told,
-    )
+    let letter = network_send::Letter {
+        now: now,
+        sort: sort,
+        origin: origin,
+        to: to,
+        kind: kind,
+        handle: handle,
+    };
+    network_words::send(head, records, letter, draws, extras, told)
 }
 
 // Takes every message due at tick `now` to the front of the lent output: how many they are is told.
 #[no_mangle]
 pub extern "C" fn bellmantle_network_take_due(
-    head: &mut [u64; 12],
-    records: &mut [u64; 1024],
+    head: &mut [u64; network_words::HEAD_WORDS],
+    records: &mut [u64; network_queue::WORDS],
     now: u64,
     out: &mut [u64],
     told: &mut [u64; 1],
 ) -> u64
-    ensures answer { λ r. ⌜ r ≡ numberOf (answerIn (take now (length (out .entry .now))) (head .entry .now) (records .entry .now)) ⌝ }
-    ensures head { λ _. ⌜ head .exit .now ≡ headAfter (take now (length (out .entry .now))) (head .entry .now) (records .entry .now) ⌝ }
-    ensures records { λ _. ⌜ records .exit .now ≡ recordsAfter (take now (length (out .entry .now))) (head .entry .now) (records .entry .now) ⌝ }
-    ensures out { λ _. ⌜ out .exit .now ≡ written (answerIn (take now (length (out .entry .now))) (head .entry .now) (records .entry .now)) (wordsOf (keep (isDue now) (plainOf (networkIn (head .entry .now) (records .entry .now)) .pending))) (out .entry .now) ⌝ }
-    ensures told { λ _. ⌜ told .exit .now ≡ onDone (answerIn (take now (length (out .entry .now))) (head .entry .now) (records .entry .now)) (length (keep (isDue now) (plainOf (networkIn (head .entry .now) (records .entry .now)) .pending)) ∷ []) (told .entry .now) ⌝ }
+    ensures answer { λ r. ⌜ r ≡ takeRows (head .entry .now) (records .entry .now) now (out .entry .now) (told .entry .now) .number ⌝ }
+    ensures head { λ _. ⌜ head .exit .now ≡ takeRows (head .entry .now) (records .entry .now) now (out .entry .now) (told .entry .now) .head ⌝ }
+    ensures records { λ _. ⌜ records .exit .now ≡ takeRows (head .entry .now) (records .entry .now) now (out .entry .now) (told .entry .now) .records ⌝ }
+    ensures out { λ _. ⌜ out .exit .now ≡ takeRows (head .entry .now) (records .entry .now) now (out .entry .now) (told .entry .now) .out ⌝ }
+    ensures told { λ _. ⌜ told .exit .now ≡ takeRows (head .entry .now) (records .entry .now) now (out .entry .now) (told .entry .now) .told ⌝ }
 {
     network_words::take_due(head, records, now, out, told)
 }
@@ -131,12 +130,12 @@ pub extern "C" fn bellmantle_network_take_due(
 // How many messages are in flight is told.
 #[no_mangle]
 pub extern "C" fn bellmantle_network_pending(
-    head: &[u64; 12],
-    records: &[u64; 1024],
+    head: &[u64; network_words::HEAD_WORDS],
+    records: &[u64; network_queue::WORDS],
     told: &mut [u64; 1],
 ) -> u64
-    ensures answer { λ r. ⌜ r ≡ numberOf (formIn (now (head .entry)) (now (records .entry))) ⌝ }
-    ensures told { λ _. ⌜ now (told .exit) ≡ onDone (formIn (now (head .entry)) (now (records .entry))) (length (plainOf (networkIn (now (head .entry)) (now (records .entry))) .pending) ∷ []) (now (told .entry)) ⌝ }
+    ensures answer { λ r. ⌜ r ≡ countRows (now (head .entry)) (now (records .entry)) (now (told .entry)) .number ⌝ }
+    ensures told { λ _. ⌜ now (told .exit) ≡ countRows (now (head .entry)) (now (records .entry)) (now (told .entry)) .told ⌝ }
 {
     network_words::pending(head, records, told)
 }
@@ -144,14 +143,14 @@ pub extern "C" fn bellmantle_network_pending(
 // The messages in flight, in delivery order, at the front of the lent output: how many they are is told.
 #[no_mangle]
 pub extern "C" fn bellmantle_network_in_flight(
-    head: &[u64; 12],
-    records: &[u64; 1024],
+    head: &[u64; network_words::HEAD_WORDS],
+    records: &[u64; network_queue::WORDS],
     out: &mut [u64],
     told: &mut [u64; 1],
 ) -> u64
-    ensures answer { λ r. ⌜ r ≡ numberOf (listIn (now (head .entry)) (now (records .entry)) (length (now (out .entry)))) ⌝ }
-    ensures out { λ _. ⌜ now (out .exit) ≡ written (listIn (now (head .entry)) (now (records .entry)) (length (now (out .entry)))) (wordsOf (plainOf (networkIn (now (head .entry)) (now (records .entry))) .pending)) (now (out .entry)) ⌝ }
-    ensures told { λ _. ⌜ now (told .exit) ≡ onDone (listIn (now (head .entry)) (now (records .entry)) (length (now (out .entry)))) (length (plainOf (networkIn (now (head .entry)) (now (records .entry))) .pending) ∷ []) (now (told .entry)) ⌝ }
+    ensures answer { λ r. ⌜ r ≡ listRows (now (head .entry)) (now (records .entry)) (now (out .entry)) (now (told .entry)) .number ⌝ }
+    ensures out { λ _. ⌜ now (out .exit) ≡ listRows (now (head .entry)) (now (records .entry)) (now (out .entry)) (now (told .entry)) .out ⌝ }
+    ensures told { λ _. ⌜ now (told .exit) ≡ listRows (now (head .entry)) (now (records .entry)) (now (out .entry)) (now (told .entry)) .told ⌝ }
 {
     network_words::in_flight(head, records, out, told)
 }
@@ -161,8 +160,8 @@ pub extern "C" fn bellmantle_network_in_flight(
 // The sends of a tick and then a take at `now`: the draws and the extras used and the records taken are told.
 #[no_mangle]
 pub extern "C" fn bellmantle_network_tick(
-    head: &mut [u64; 12],
-    records: &mut [u64; 1024],
+    head: &mut [u64; network_words::HEAD_WORDS],
+    records: &mut [u64; network_queue::WORDS],
     sends: &[u64],
     draws: &[u64],
     extras: &[u64],
@@ -170,11 +169,16 @@ pub extern "C" fn bellmantle_network_tick(
     out: &mut [u64],
     told: &mut [u64; 3],
 ) -> u64
-    ensures answer { λ r. ⌜ r ≡ ticked (head .entry .now) (records .entry .now) (sends .entry .now) (draws .entry .now) (extras .entry .now) now (out .entry .now) (told .entry .now) .number ⌝ }
-    ensures head { λ _. ⌜ head .exit .now ≡ ticked (head .entry .now) (records .entry .now) (sends .entry .now) (draws .entry .now) (extras .entry .now) now (out .entry .now) (told .entry .now) .head ⌝ }
-    ensures records { λ _. ⌜ records .exit .now ≡ ticked (head .entry .now) (records .entry .now) (sends .entry .now) (draws .entry .now) (extras .entry .now) now (out .entry .now) (told .entry .now) .records ⌝ }
-    ensures out { λ _. ⌜ out .exit .now ≡ ticked (head .entry .now) (records .entry .now) (sends .entry .now) (draws .entry .now) (extras .entry .now) now (out .entry .now) (told .entry .now) .out ⌝ }
-    ensures told { λ _. ⌜ told .exit .now ≡ ticked (head .entry .now) (records .entry .now) (sends .entry .now) (draws .entry .now) (extras .entry .now) now (out .entry .now) (told .entry .now) .told ⌝ }
+    ensures answer { λ r. ⌜ r ≡ ticked (head .entry .now) (records .entry .now) (sends .entry .now)
+        (draws .entry .now) (extras .entry .now) now (out .entry .now) (told .entry .now) .number ⌝ }
+    ensures head { λ _. ⌜ head .exit .now ≡ ticked (head .entry .now) (records .entry .now) (sends .entry .now)
+        (draws .entry .now) (extras .entry .now) now (out .entry .now) (told .entry .now) .head ⌝ }
+    ensures records { λ _. ⌜ records .exit .now ≡ ticked (head .entry .now) (records .entry .now) (sends .entry .now)
+        (draws .entry .now) (extras .entry .now) now (out .entry .now) (told .entry .now) .records ⌝ }
+    ensures out { λ _. ⌜ out .exit .now ≡ ticked (head .entry .now) (records .entry .now) (sends .entry .now)
+        (draws .entry .now) (extras .entry .now) now (out .entry .now) (told .entry .now) .out ⌝ }
+    ensures told { λ _. ⌜ told .exit .now ≡ ticked (head .entry .now) (records .entry .now) (sends .entry .now)
+        (draws .entry .now) (extras .entry .now) now (out .entry .now) (told .entry .now) .told ⌝ }
 {
     network_batch::tick(head, records, sends, draws, extras, now, out, told)
 }
@@ -193,8 +197,8 @@ pub extern "C" fn bellmantle_journal_mark(journal: &mut [u64]) -> u64
 // A journaled send.
 #[no_mangle]
 pub extern "C" fn bellmantle_journal_send(
-    head: &mut [u64; 12],
-    records: &mut [u64; 1024],
+    head: &mut [u64; network_words::HEAD_WORDS],
+    records: &mut [u64; network_queue::WORDS],
     now: u64,
     sort: u64,
     origin: u64,
@@ -206,11 +210,17 @@ pub extern "C" fn bellmantle_journal_send(
     journal: &mut [u64],
     told: &mut [u64; 4],
 ) -> u64
-    ensures answer { λ r. ⌜ r ≡ numberOf (journalAnswer (sends now sort origin to kind handle (draws .entry .now) (extras .entry .now)) (head .entry .now) (records .entry .now) (journal .entry .now)) ⌝ }
-    ensures head { λ _. ⌜ head .exit .now ≡ journalHead (sends now sort origin to kind handle (draws .entry .now) (extras .entry .now)) (head .entry .now) (records .entry .now) (journal .entry .now) ⌝ }
-    ensures records { λ _. ⌜ records .exit .now ≡ journalRecords (sends now sort origin to kind handle (draws .entry .now) (extras .entry .now)) (head .entry .now) (records .entry .now) (journal .entry .now) ⌝ }
-    ensures journal { λ _. ⌜ journal .exit .now ≡ journalWords (sends now sort origin to kind handle (draws .entry .now) (extras .entry .now)) (head .entry .now) (records .entry .now) (journal .entry .now) ⌝ }
-    ensures told { λ _. ⌜ told .exit .now ≡ onDone (journalAnswer (sends now sort origin to kind handle (draws .entry .now) (extras .entry .now)) (head .entry .now) (records .entry .now) (journal .entry .now)) (sendTold (decided (plainOf (networkIn (head .entry .now) (records .entry .now)) .options) now kind (draws .entry .now) (extras .entry .now))) (told .entry .now) ⌝ }
+    ensures answer { λ r. ⌜ r
+        ≡ numberOf (journalAnswer (sends now sort origin to kind handle (draws .entry .now) (extras .entry .now)) (head .entry .now) (records .entry .now) (journal .entry .now)) ⌝ }
+    ensures head { λ _. ⌜ head .exit .now
+        ≡ journalHead (sends now sort origin to kind handle (draws .entry .now) (extras .entry .now)) (head .entry .now) (records .entry .now) (journal .entry .now) ⌝ }
+    ensures records { λ _. ⌜ records .exit .now
+        ≡ journalRecords (sends now sort origin to kind handle (draws .entry .now) (extras .entry .now)) (head .entry .now) (records .entry .now) (journal .entry .now) ⌝ }
+    ensures journal { λ _. ⌜ journal .exit .now
+        ≡ journalWords (sends now sort origin to kind handle (draws .entry .now) (extras .entry .now)) (head .entry .now) (records .entry .now) (journal .entry .now) ⌝ }
+    ensures told { λ _. ⌜ told .exit .now
+        ≡ ifDone (journalAnswer (sends now sort origin to kind handle (draws .entry .now) (extras .entry .now)) (head .entry .now) (records .entry .now) (journal .entry .now))
+        (sendTold (decided (plainIn (headIn (head .entry .now)) (records .entry .now) .options) now kind (draws .entry .now) (extras .entry .now))) (told .entry .now) ⌝ }
 {
     journal_words::send(
         head,
@@ -231,8 +241,8 @@ pub extern "C" fn bellmantle_journal_send(
 // A journaled take.
 #[no_mangle]
 pub extern "C" fn bellmantle_journal_take_due(
-    head: &mut [u64; 12],
-    records: &mut [u64; 1024],
+    head: &mut [u64; network_words::HEAD_WORDS],
+    records: &mut [u64; network_queue::WORDS],
     now: u64,
     out: &mut [u64],
     journal: &mut [u64],
@@ -241,9 +251,13 @@ pub extern "C" fn bellmantle_journal_take_due(
     ensures answer { λ r. ⌜ r ≡ numberOf (journalAnswer (takes now (length (out .entry .now))) (head .entry .now) (records .entry .now) (journal .entry .now)) ⌝ }
     ensures head { λ _. ⌜ head .exit .now ≡ journalHead (takes now (length (out .entry .now))) (head .entry .now) (records .entry .now) (journal .entry .now) ⌝ }
     ensures records { λ _. ⌜ records .exit .now ≡ journalRecords (takes now (length (out .entry .now))) (head .entry .now) (records .entry .now) (journal .entry .now) ⌝ }
-    ensures out { λ _. ⌜ out .exit .now ≡ written (journalAnswer (takes now (length (out .entry .now))) (head .entry .now) (records .entry .now) (journal .entry .now)) (wordsOf (keep (isDue now) (plainOf (networkIn (head .entry .now) (records .entry .now)) .pending))) (out .entry .now) ⌝ }
+    ensures out { λ _. ⌜ out .exit .now
+        ≡ written (journalAnswer (takes now (length (out .entry .now))) (head .entry .now) (records .entry .now) (journal .entry .now))
+        (recordWords (dueIn now (headIn (head .entry .now)) (records .entry .now))) (out .entry .now) ⌝ }
     ensures journal { λ _. ⌜ journal .exit .now ≡ journalWords (takes now (length (out .entry .now))) (head .entry .now) (records .entry .now) (journal .entry .now) ⌝ }
-    ensures told { λ _. ⌜ told .exit .now ≡ onDone (journalAnswer (takes now (length (out .entry .now))) (head .entry .now) (records .entry .now) (journal .entry .now)) (length (keep (isDue now) (plainOf (networkIn (head .entry .now) (records .entry .now)) .pending)) ∷ []) (told .entry .now) ⌝ }
+    ensures told { λ _. ⌜ told .exit .now
+        ≡ ifDone (journalAnswer (takes now (length (out .entry .now))) (head .entry .now) (records .entry .now) (journal .entry .now))
+        (length (dueIn now (headIn (head .entry .now)) (records .entry .now)) ∷ []) (told .entry .now) ⌝ }
 {
     journal_words::take_due(head, records, now, out, journal, told)
 }
@@ -251,8 +265,8 @@ pub extern "C" fn bellmantle_journal_take_due(
 // A journaled change of the options.
 #[no_mangle]
 pub extern "C" fn bellmantle_journal_set_options(
-    head: &mut [u64; 12],
-    records: &[u64; 1024],
+    head: &mut [u64; network_words::HEAD_WORDS],
+    records: &[u64; network_queue::WORDS],
     loss: u64,
     replay: u64,
     min: u64,
@@ -270,8 +284,8 @@ pub extern "C" fn bellmantle_journal_set_options(
 // Goes back over the last k calls held.
 #[no_mangle]
 pub extern "C" fn bellmantle_journal_rewind(
-    head: &mut [u64; 12],
-    records: &mut [u64; 1024],
+    head: &mut [u64; network_words::HEAD_WORDS],
+    records: &mut [u64; network_queue::WORDS],
     k: u64,
     journal: &mut [u64],
 ) -> u64

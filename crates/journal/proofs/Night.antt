@@ -7,19 +7,20 @@ use mathlib.Core.List.{List, [], _∷_}
 use native.Mathlib.Omega.{arith}
 use lib.Dec.{leb}
 use lib.ListN.{length}
-use Rattle.nights.specs.Net.{Options, Network as Plain, fresh, goodOptions, wellFormed}
+use Rattle.nights.specs.Net.{Options, Plain, fresh, goodOptions, wellFormed}
 use Rattle.nights.specs.Draws.{fateOf}
-use Rattle.nights.specs.Journal.{Answer, done, refused, Call, plain, rewind, mark, State, Step, header, doMark, step, verdict, optionTests}
+use Rattle.nights.specs.Tests.{Answer, done, refused, verdict, optionTests, ifDone}
+use Rattle.nights.specs.Journal.{Call, change, rewind, mark, State, Step, header, doMark, step}
 use Rattle.nights.specs.Rule.{Entry, standing, Told, start, run, log, ran, Claim}
 use Rattle.nights.proofs.Kept.{fresh-formed}
 use Rattle.nights.proofs.Steps.{refused-stays, step-keeps}
 use Rattle.nights.proofs.Claim.{claim-of-the-rules}
 use Rattle.network.specs.declared.Network.{Network}
-use Rattle.network_fates.specs.Options.{perfectOptions}
+use Rattle.network_options.specs.Options.{perfectOptions}
 use Rattle.network.specs.Forms.{plainOf, structOf, isFormed}
-use Rattle.network.specs.Calls.{settling, firstBy, firstNetwork}
-use Rattle.network.proofs.Maps.{plain-formed, plain-of-struct, struct-formed}
-use Rattle.network_fates.proofs.OptionForms.{refused-bad}
+use Rattle.network.specs.Calls.{firstNetwork}
+use Rattle.network.proofs.Structs.{plain-formed, plain-of-struct, struct-formed}
+use Rattle.network_options.proofs.OptionForms.{tests-pass}
 use Rattle.journal_calls.specs.Calls.{stateOf, stepOf, networkAfter}
 use Rattle.journal.specs.Night.{Held, Turn, Settled, Marked, Made, Night, endOf, callsOf, entriesOf, evening, Demand3}
 
@@ -36,8 +37,8 @@ record Left (new : Plain) (after : Network) : Type 0 where
   formed : isFormed after ≡ true
 
 left : (a : Answer) (new : Plain) (old : Network) → wellFormed new ≡ true → isFormed old ≡ true
-    → ((k : ℕ) → a ≡ refused k → new ≡ plainOf old) → Left new (settling a new old)
-unfolding settling
+    → ((k : ℕ) → a ≡ refused k → new ≡ plainOf old) → Left new (ifDone a (structOf new) old)
+unfolding ifDone
 left done new old w f same = record { plain = plain-of-struct new w; formed = struct-formed new w }
 left (refused k) new old w f same = record { plain = sym (same k refl); formed = f }
 
@@ -100,7 +101,7 @@ marked-same h f a after m =
 made-same : (h : Held) → isFormed (h .network) ≡ true → (c : Call) (a : Answer) (after : Held) → Made h c a after
     → (a ≡ step fateOf (stateOf (h .network) (h .words)) c .answer) × Same after (step fateOf (stateOf (h .network) (h .words)) c .state)
 unfolding Made
-made-same h f (plain c) a after m = settled-same h f (plain c) a after m
+made-same h f (change c) a after m = settled-same h f (change c) a after m
 made-same h f (rewind k) a after m = settled-same h f (rewind k) a after m
 made-same h f mark a after m = marked-same h f a after m
 
@@ -120,12 +121,8 @@ night-same h s (t ∷ ts) e n =
 
 -- a fresh network of good options is the plain form's fresh network
 first-is : (o : Options) → goodOptions o ≡ true → firstNetwork o ≡ structOf (fresh o)
-unfolding firstNetwork firstBy
-first-is o good = go (verdict (optionTests o [])) refl
-  where
-    go : (a : Answer) → verdict (optionTests o []) ≡ a → firstBy a o ≡ structOf (fresh o)
-    go done e = refl
-    go (refused k) e = let x : false ≡ true = sym (refused-bad o k e) ∙ good in let z : _≡_ {A = ℕ} 0 1 = cc in absurd (omega arith)
+unfolding firstNetwork ifDone
+first-is o good = rw (tests-pass o good)
 
 evening-same : (o : Options) (rest : List ℕ) → goodOptions o ≡ true → Same (evening o rest) (start o rest)
 evening-same o rest good =

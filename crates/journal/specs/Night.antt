@@ -6,7 +6,8 @@ use mathlib.Core.Bool.{true}
 use mathlib.Core.List.{List, [], _∷_, map}
 use Rattle.nights.specs.Net.{Options}
 use Rattle.nights.specs.Draws.{fateOf}
-use Rattle.nights.specs.Journal.{Answer, Call, plain, rewind, mark}
+use Rattle.nights.specs.Tests.{Answer}
+use Rattle.nights.specs.Journal.{Call, change, rewind, mark}
 use Rattle.nights.specs.Rule.{Entry, standing, Told, ran, logOf, Claim}
 use Rattle.network.specs.declared.Network.{Network}
 use Rattle.network.specs.Forms.{plainOf, isFormed}
@@ -36,7 +37,7 @@ pub record Marked (h : Held) (answer : Answer) (after : Held) : Type 0 where
   pub words : after .words ≡ markWords (h .words)
 
 unfoldable pub Made : Held → Call → Answer → Held → Type 0
-Made h (plain c) answer after = Settled h (plain c) answer after
+Made h (change c) answer after = Settled h (change c) answer after
 Made h (rewind k) answer after = Settled h (rewind k) answer after
 Made h mark answer after = Marked h answer after
 

@@ -3,23 +3,24 @@
 use Prim.Native.Nat.{ℕ}
 use mathlib.Core.Bool.{cond}
 use mathlib.Core.List.{List}
-use Rattle.nights.specs.Net.{Options, send, take, choose, fresh}
+use Rattle.nights.specs.Net.{Options, send, collect, choose, fresh}
 use Rattle.nights.specs.Draws.{fateOf}
-use Rattle.nights.specs.Journal.{Answer, refused, Call, plain, mark, State, Step, step}
+use Rattle.nights.specs.Tests.{Answer, refused, ifDone}
+use Rattle.nights.specs.Journal.{Call, change, mark, State, Step, step}
 use Rattle.network.specs.declared.Network.{Network}
-use Rattle.network_fates.specs.Options.{perfectOptions}
-use Rattle.network.specs.Forms.{plainOf, isFormed, letterOf}
-use Rattle.network.specs.Calls.{settling}
+use Rattle.network_options.specs.Options.{perfectOptions}
+use Rattle.network.specs.Forms.{plainOf, structOf, isFormed}
+use Rattle.network_send.specs.Sends.{letterOf}
 
 -- the calls, from their parameters
 abbrev pub sends : (now sort origin to kind handle : ℕ) (draws extras : List ℕ) → Call
-sends n s o t k h draws extras = plain (send (letterOf n s o t k h) draws extras)
+sends n s o t k h draws extras = change (send (letterOf n s o t k h) draws extras)
 
 abbrev pub takes : (now room : ℕ) → Call
-takes now room = plain (take now room)
+takes now room = change (collect now room)
 
 abbrev pub chooses : Options → Call
-chooses o = plain (choose o)
+chooses o = change (choose o)
 
 -- what the code holds, in the plain form
 abbrev pub stateOf : Network → List ℕ → State
@@ -37,7 +38,7 @@ abbrev pub wordsAfter : Call → Network → List ℕ → List ℕ
 wordsAfter c s w = stepOf c s w .state .words
 
 abbrev pub networkAfter : Call → Network → List ℕ → Network
-networkAfter c s w = settling (stepOf c s w .answer) (stepOf c s w .state .net) s
+networkAfter c s w = ifDone (stepOf c s w .answer) (structOf (stepOf c s w .state .net)) s
 
 -- A mark takes no network: its step is the same on any, and here it is that on a fresh one.
 abbrev pub marked : List ℕ → Step

@@ -11,8 +11,9 @@ use lib.ListN.{length, take, drop, getD, set, length-append, length-take, length
 use lib.Seq.{getD-take, take-length, paste}
 use Rattle.basis.specs.Basis.{laid}
 use Rattle.basis.proofs.Laws.{both}
-use Rattle.nights.specs.Journal.{done, refused, held, used, logged, goodHeader, verdict, journalTests}
-use Rattle.network_fates.proofs.Failing.{first, second}
+use Rattle.nights.specs.Tests.{done, refused, verdict}
+use Rattle.nights.specs.Journal.{held, used, logged, goodHeader, journalTests}
+use Rattle.nights.proofs.Failing.{first, second}
 
 -- half of it, rounded down
 halved : (a b : ℕ) → leb a (b / 2) ≡ leb (2 * a) b

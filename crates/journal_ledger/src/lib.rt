@@ -1,17 +1,18 @@
 // The journal's words: the sorts and lengths of records, whether the header is good, whether a record has room, a record put behind the
 // others, and the record of a change of options.
-use network_fates::NetworkOptions;
-use network_fates::Refusal;
-use network_fates::Settled;
+use network_options::NetworkOptions;
+use network_options::Refusal;
+use network_options::Settled;
 ghost use mathlib.Core.Path.{_≡_};
 ghost use mathlib.Core.Bool.{true};
 ghost use Prim.Native.Nat.{_+_, _≤_};
 ghost use lib.ListN.{length};
 ghost use Rattle.basis.specs.Basis.{laid};
 ghost use Rattle.nights.specs.Net.{goodOptions};
-ghost use Rattle.nights.specs.Journal.{used, logged, goodHeader, verdict, journalTests};
-ghost use Rattle.network_fates.specs.Answers.{settledOf};
-ghost use Rattle.network_fates.specs.Options.{plainOptions};
+ghost use Rattle.nights.specs.Journal.{used, logged, goodHeader, journalTests};
+ghost use Rattle.nights.specs.Tests.{verdict};
+ghost use Rattle.network_options.specs.Answers.{settledOf};
+ghost use Rattle.network_options.specs.Options.{plainOptions};
 ghost use Rattle.journal_ledger.specs.Records.{optionsRecord};
 
 // The sorts of a record, which stand before its length at its end.

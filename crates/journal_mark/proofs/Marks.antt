@@ -5,8 +5,9 @@ use mathlib.Core.List.{List, _∷_}
 use borrow.Author.Tests.{le-leb, lt-leb}
 use lib.ListN.{length, drop}
 use Rattle.nights.specs.Net.{fresh}
-use Rattle.nights.specs.Journal.{done, refused, doMark, step}
-use Rattle.network_fates.specs.Options.{perfectOptions}
+use Rattle.nights.specs.Tests.{done, refused}
+use Rattle.nights.specs.Journal.{doMark, step}
+use Rattle.network_options.specs.Options.{perfectOptions}
 use Rattle.journal_calls.specs.Calls.{marked}
 
 module _ (w : List ℕ) where

@@ -1,10 +1,10 @@
 // A mark. The journal of a network's calls stands in words that the host lends: word 0 says how many calls it holds, word 1 how many
 // words are used, and behind them stands a record for each call, enough to undo it. A mark forgets them, so that no rewind goes past it.
 // Any words may be lent.
-use network_fates::Refusal;
-use network_fates::Settled;
+use network_options::Refusal;
+use network_options::Settled;
 ghost use mathlib.Core.Path.{_≡_};
-ghost use Rattle.network_fates.specs.Answers.{settledOf};
+ghost use Rattle.network_options.specs.Answers.{settledOf};
 ghost use Rattle.journal_calls.specs.Calls.{markAnswer, markWords};
 
 // Forgets the calls held, so that none of them can be undone.

@@ -1,11 +1,11 @@
 // A journaled change of the options: the plain change, with a record of the old options behind the journal's others. Any words may be lent.
 use network::Network;
 use network::Next;
-use network_fates::NetworkOptions;
-use network_fates::Settled;
+use network_options::NetworkOptions;
+use network_options::Settled;
 ghost use mathlib.Core.Path.{_≡_};
-ghost use Rattle.network_fates.specs.Answers.{settledOf};
-ghost use Rattle.network_fates.specs.Options.{plainOptions};
+ghost use Rattle.network_options.specs.Answers.{settledOf};
+ghost use Rattle.network_options.specs.Options.{plainOptions};
 ghost use Rattle.journal_calls.specs.Calls.{chooses, answerOf, wordsAfter, networkAfter};
 
 // A change of the options.
@@ -26,7 +26,7 @@ pub fn set_options(network: Network, options: NetworkOptions, journal: &mut [u64
             answer: room,
         };
     };
-    let record = journal_ledger::options_record(network.options);
+    let record = journal_ledger::options_record(network.head.options);
     journal_ledger::append(journal, &record[..]);
     next
 }

@@ -5,12 +5,13 @@ use mathlib.Core.List.{List, _∷_}
 use mathlib.Core.Bool.{true, false}
 use borrow.Author.Tests.{le-leb, lt-leb}
 use lib.ListN.{length, drop}
-use Rattle.nights.specs.Journal.{done, refused, rewind, held, used, header, goodHeader, undoAll, rewound, doRewind, step}
+use Rattle.nights.specs.Tests.{done, refused, ifDone}
+use Rattle.nights.specs.Journal.{rewind, held, used, header, goodHeader, undoAll, rewound, doRewind, step}
 use Rattle.network.specs.declared.Network.{Network}
 use Rattle.network.specs.Forms.{plainOf, isFormed}
-use Rattle.network.specs.Calls.{settling}
-use Rattle.network_fates.proofs.OptionForms.{Held}
-use Rattle.network.proofs.Maps.{plain-formed, struct-of-plain}
+use Rattle.network_queue.specs.Packed.{arraySize}
+use Rattle.network_options.proofs.OptionForms.{Held}
+use Rattle.network.proofs.Structs.{plain-formed, struct-of-plain}
 use Rattle.journal_undo.specs.declared.Undone.{Undone}
 use Rattle.journal_undo.specs.Undone.{undoneOf}
 use Rattle.journal_calls.specs.Calls.{stepOf}
@@ -37,9 +38,9 @@ module _ (k : ℕ) (s : Network) (w : List ℕ) where
         unfolding stepOf step doRewind rewound undoneOf
         no-fit b = refused-by (rewind k) s w 31 (rw (f, plain-formed s f, g, le-leb k (held w) h, ← e, b))
 
-        pub went-back : u .fits ≡ true → isFormed (u .network) ≡ true → Held (u .network .options) → length (u .network .words) ≡ 1024
+        pub went-back : u .fits ≡ true → isFormed (u .network) ≡ true → Held (u .network .head .options) → length (u .network .words) ≡ arraySize
             → Met (rewind k) s w (u .network) done ((held w - k) ∷ u .start ∷ drop 2 w)
-        unfolding stepOf step doRewind rewound undoneOf settling
+        unfolding stepOf step doRewind rewound undoneOf ifDone
         went-back b o a l =
             rw (sym (struct-of-plain (u .network) o a l))
             (met-by (rewind k) s w

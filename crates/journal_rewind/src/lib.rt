@@ -1,12 +1,13 @@
 // A rewind: the network from before the last k calls that the journal holds, from their records alone. Any words may be lent.
-use network::Counted;
 use network::Network;
 use network::Next;
-use network_fates::Refusal;
-use network_fates::Settled;
+use network_options::Refusal;
+use network_options::Settled;
+use network_take::Counted;
 ghost use mathlib.Core.Path.{_≡_};
-ghost use Rattle.nights.specs.Journal.{rewind, done, refused};
-ghost use Rattle.network_fates.specs.Answers.{number, settledOf};
+ghost use Rattle.nights.specs.Journal.{rewind};
+ghost use Rattle.nights.specs.Tests.{done, refused};
+ghost use Rattle.network_options.specs.Answers.{refusalNumber, settledOf};
 ghost use Rattle.journal_calls.specs.Calls.{answerOf, wordsAfter, networkAfter};
 
 // Goes back over the last k calls held.
@@ -45,7 +46,7 @@ fn rewound(network: Network) -> Next
 }
 
 fn refused(network: Network, refusal: Refusal) -> Next
-    ensures { λ t. ⌜ (t .network ≡ network) × (settledOf (t .answer) ≡ refused (number refusal)) ⌝ }
+    ensures { λ t. ⌜ (t .network ≡ network) × (settledOf (t .answer) ≡ refused (refusalNumber refusal)) ⌝ }
 {
     Next {
         network: network,

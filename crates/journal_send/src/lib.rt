@@ -1,11 +1,11 @@
 // A journaled send: the plain send, with a record of the numbers before it behind the journal's others. Any words may be lent.
 use network::Network;
-use network::SendAnswer;
 use network::Sent;
-use network_fates::Settled;
+use network_options::Settled;
+use network_send::SendAnswer;
 ghost use mathlib.Core.Path.{_≡_};
 ghost use Rattle.nights.specs.Draws.{decided};
-ghost use Rattle.network.specs.Answers.{sentOf, sending};
+ghost use Rattle.network_send.specs.Sends.{sentOf, sending};
 ghost use Rattle.network.specs.Forms.{plainOf};
 ghost use Rattle.journal_calls.specs.Calls.{sends, answerOf, wordsAfter, networkAfter};
 
@@ -40,10 +40,10 @@ pub fn send(
     let Settled::Refused(refusal) = journal_ledger::room_for(journal, journal_ledger::SEND_WORDS)
     else {
         let record = [
-            network.seq,
-            network.lost,
-            network.replayed,
-            network.delayed,
+            network.head.seq,
+            network.head.lost,
+            network.head.replayed,
+            network.head.delayed,
             journal_ledger::SEND,
             journal_ledger::SEND_WORDS as u64,
         ];

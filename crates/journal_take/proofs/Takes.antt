@@ -8,20 +8,20 @@ use native.Mathlib.Omega.{arith}
 use native.Mathlib.Numerals.{add-one}
 use lib.ListN.{length, take, drop, set, length-append, length-drop}
 use lib.Seq.{take-at, length-take-le, sets-eq}
-use Rattle.nights.specs.Record.{Record, wordsOf}
-use Rattle.nights.specs.Net.{take as takes, keep, isDue, effect}
+use Rattle.nights.specs.Record.{Record, recordWords}
+use Rattle.nights.specs.Net.{collect, keep, isDue, effect}
 use Rattle.basis.specs.Basis.{laid}
-use Rattle.nights.specs.Journal.{Answer, done, refused, undoWords}
+use Rattle.nights.specs.Tests.{Answer, done, refused, ifDone}
+use Rattle.nights.specs.Journal.{undoWords}
 use Rattle.nights.proofs.Order.{length-split}
-use Rattle.nights.proofs.Undo.{length-wordsOf}
+use Rattle.nights.proofs.Undo.{length-recordWords}
 use Rattle.network_queue.proofs.Inserting.{length-recs}
 use Rattle.network.specs.declared.Network.{Network}
-use Rattle.network.specs.Answers.{Count, counting}
+use Rattle.network_take.specs.Takes.{Count, counting}
 use Rattle.network.specs.Forms.{plainOf, isFormed}
-use Rattle.network.specs.Calls.{callAnswer, callNetwork, written}
-use Rattle.network.proofs.Maps.{small}
-use Rattle.network.proofs.Calling.{call-ill, follows, take-short, take-well}
-use Rattle.network.proofs.Laws.{was-formed}
+use Rattle.network.specs.Calls.{callAnswer, callNetwork}
+use Rattle.network_form.specs.Calls.{written}
+use Rattle.network.proofs.Structs.{small, call-ill, follows, take-short, take-well, was-formed}
 
 -- ---- what a count tells
 
@@ -56,48 +56,48 @@ module _ (s : Network) (now room : ℕ) where
 
   few-due : isFormed s ≡ true → 8 * length dueNow ≤ 1024
   few-due f =
-      omega (arith, small s f, length-split (isDue now) (plainOf s .pending), length-recs (s .words) 0 (s .pending))
+      omega (arith, small s f, length-split (isDue now) (plainOf s .pending), length-recs (s .words) 0 (s .head .pending))
 
   -- made to 1,024 words it is refused only if the network is ill formed, and then with any room
-  pub own-refused : (k : ℕ) → callAnswer (takes now 1024) s ≡ refused k → callAnswer (takes now room) s ≡ refused k
+  pub own-refused : (k : ℕ) → callAnswer (collect now 1024) s ≡ refused k → callAnswer (collect now room) s ≡ refused k
   own-refused k e = go (isFormed s) refl
     where
-      go : (b : Bool) → isFormed s ≡ b → callAnswer (takes now room) s ≡ refused k
+      go : (b : Bool) → isFormed s ≡ b → callAnswer (collect now room) s ≡ refused k
       go true f =
-          let d : callAnswer (takes now 1024) s ≡ done =
+          let d : callAnswer (collect now 1024) s ≡ done =
           take-well s f now 1024 (length dueNow) refl (omega (arith, few-due f)) in
           let z : _≡_ {A = ℕ} 0 1 = cc in
           absurd (omega arith)
-      go false f = call-ill s (takes now room) f ∙ (sym (call-ill s (takes now 1024) f) ∙ e)
+      go false f = call-ill s (collect now room) f ∙ (sym (call-ill s (collect now 1024) f) ∙ e)
 
-  module _ (e : callAnswer (takes now 1024) s ≡ done) (t : ℕ) (n : t ≡ length dueNow) where
+  module _ (e : callAnswer (collect now 1024) s ≡ done) (t : ℕ) (n : t ≡ length dueNow) where
     pub own-small : t * 8 ≤ 1024
-    own-small = omega (arith, few-due (was-formed (takes now 1024) s e))
+    own-small = omega (arith, few-due (was-formed (collect now 1024) s e))
 
     -- the lent output may be short
-    pub lent-short : room < t * 8 → callAnswer (takes now room) s ≡ refused 30
-    lent-short h = take-short s (was-formed (takes now 1024) s e) now room t n h
+    pub lent-short : room < t * 8 → callAnswer (collect now room) s ≡ refused 30
+    lent-short h = take-short s (was-formed (collect now 1024) s e) now room t n h
 
-    pub lent-well : t * 8 ≤ room → callAnswer (takes now room) s ≡ done
-    lent-well h = take-well s (was-formed (takes now 1024) s e) now room t n h
+    pub lent-well : t * 8 ≤ room → callAnswer (collect now room) s ≡ done
+    lent-well h = take-well s (was-formed (collect now 1024) s e) now room t n h
 
     -- the network does not turn on the room
-    pub same-network : callAnswer (takes now room) s ≡ done → callNetwork (takes now 1024) s ≡ callNetwork (takes now room) s
+    pub same-network : callAnswer (collect now room) s ≡ done → callNetwork (collect now 1024) s ≡ callNetwork (collect now room) s
     unfolding effect
-    same-network d = sym (follows s (takes now 1024) e) ∙ follows s (takes now room) d
+    same-network d = sym (follows s (collect now 1024) e) ∙ follows s (collect now room) d
 
-    pub record-size : t * 8 + 2 ≡ length (undoWords (takes now room) (plainOf s))
+    pub record-size : t * 8 + 2 ≡ length (undoWords (collect now room) (plainOf s))
     unfolding undoWords
     record-size =
-        omega (arith, length-append (wordsOf dueNow) (2 ∷ (8 * length dueNow + 2) ∷ []), length-wordsOf dueNow)
+        omega (arith, length-append (recordWords dueNow) (2 ∷ (8 * length dueNow + 2) ∷ []), length-recordWords dueNow)
 
     -- its own words then: those taken, and more
-    module _ (last own : List ℕ) (x y : ℕ) (long : length own ≡ 1024) (w : last ≡ written (callAnswer (takes now 1024) s) (wordsOf dueNow) own) where
-      size : length (wordsOf dueNow) ≡ t * 8
-      size = omega (arith, length-wordsOf dueNow)
+    module _ (last own : List ℕ) (x y : ℕ) (long : length own ≡ 1024) (w : last ≡ written (callAnswer (collect now 1024) s) (recordWords dueNow) own) where
+      size : length (recordWords dueNow) ≡ t * 8
+      size = omega (arith, length-recordWords dueNow)
 
-      last-is : last ≡ wordsOf dueNow ++ drop (length (wordsOf dueNow)) own
-      unfolding written
+      last-is : last ≡ recordWords dueNow ++ drop (length (recordWords dueNow)) own
+      unfolding ifDone
       last-is = rw e at w
 
       pub length-last : length last ≡ 1024
@@ -105,20 +105,20 @@ module _ (s : Network) (now room : ℕ) where
           omega (
             arith,
             ap length last-is,
-            length-append (wordsOf dueNow) (drop (length (wordsOf dueNow)) own),
-            length-drop (length (wordsOf dueNow)) own,
+            length-append (recordWords dueNow) (drop (length (recordWords dueNow)) own),
+            length-drop (length (recordWords dueNow)) own,
             own-small,
             size,
           )
 
-      pub taken-front : take (t * 8) (last ++ (x ∷ y ∷ [])) ≡ wordsOf dueNow
+      pub taken-front : take (t * 8) (last ++ (x ∷ y ∷ [])) ≡ recordWords dueNow
       taken-front =
           ap (λ (l : List ℕ). take (t * 8) (l ++ (x ∷ y ∷ []))) last-is
-          ∙ (ap (λ (l : List ℕ). take (t * 8) l) (append-assoc (wordsOf dueNow) (drop (length (wordsOf dueNow)) own) (x ∷ y ∷ []))
-          ∙ take-at (wordsOf dueNow) _ (t * 8) size)
+          ∙ (ap (λ (l : List ℕ). take (t * 8) l) (append-assoc (recordWords dueNow) (drop (length (recordWords dueNow)) own) (x ∷ y ∷ []))
+          ∙ take-at (recordWords dueNow) _ (t * 8) size)
 
       pub the-record : take (t * 8 + 2) (set (set (last ++ (x ∷ y ∷ [])) (t * 8) 2) (t * 8 + 1) (t * 8 + 2))
-          ≡ undoWords (takes now room) (plainOf s)
+          ≡ undoWords (collect now room) (plainOf s)
       unfolding undoWords
       the-record =
           let z : t * 8 + 2 ≡ 8 * length dueNow + 2 = omega arith in

@@ -8,10 +8,10 @@ use native.Mathlib.Numerals.{add-one}
 use borrow.Author.Tests.{le-leb, lt-leb}
 use lib.ListN.{length, take, drop, getD, replicate, length-drop, length-append}
 use lib.Seq.{getD-append-add, getD-drop, take-at, drop-append-add, drop-drop}
-use Rattle.nights.specs.Record.{Record, words, wordsOf, recordAt, recs}
+use Rattle.nights.specs.Record.{Record, words, recordWords, recordAt, recs}
 use Rattle.nights.specs.Net.{keep}
 use Rattle.nights.proofs.Order.{keep-append, length-split}
-use Rattle.nights.proofs.Undo.{length-wordsOf}
+use Rattle.nights.proofs.Undo.{length-recordWords}
 use Rattle.network_queue.proofs.Inserting.{length-recs}
 use Rattle.journal_undo.specs.Undone.{upTo}
 
@@ -22,10 +22,10 @@ recs-snoc w b (suc i) =
     let z : b + suc i * 8 ≡ b + 8 + i * 8 = omega arith in
     rw z (ap (λ (l : List Record). recordAt w b ∷ l) (recs-snoc w (b + 8) i))
 
-wordsOf-snoc : (l : List Record) (x : Record) → wordsOf (l ++ (x ∷ [])) ≡ wordsOf l ++ words x
-unfolding wordsOf
-wordsOf-snoc [] x = refl
-wordsOf-snoc (y ∷ l) x = rw (wordsOf-snoc l x)
+recordWords-snoc : (l : List Record) (x : Record) → recordWords (l ++ (x ∷ [])) ≡ recordWords l ++ words x
+unfolding recordWords
+recordWords-snoc [] x = refl
+recordWords-snoc (y ∷ l) x = rw (recordWords-snoc l x)
 
 -- those of the first i records that are kept
 abbrev pub kept : List ℕ → ℕ → ℕ → List Record
@@ -38,51 +38,51 @@ kept-few w last i = omega (arith, length-split (upTo last) (recs w 0 i), length-
 pub record Moved (v w : List ℕ) (last m i : ℕ) : Type 0 where
   pub within : m ≤ i
   pub count : m ≡ length (kept v last i)
-  pub front : w ≡ wordsOf (kept v last i) ++ drop (m * 8) v
+  pub front : w ≡ recordWords (kept v last i) ++ drop (m * 8) v
 
 pub start : (v : List ℕ) (last : ℕ) → Moved v v last 0 0
-unfolding recs keep wordsOf
+unfolding recs keep recordWords
 start v last = record { within = omega arith; count = refl; front = refl }
 
 -- what `keep_front` tells
-pub ended : (v w : List ℕ) (last m i : ℕ) → m ≡ length (kept v last i) → w ≡ wordsOf (kept v last i) ++ drop (m * 8) v → Moved v w last m i
+pub ended : (v w : List ℕ) (last m i : ℕ) → m ≡ length (kept v last i) → w ≡ recordWords (kept v last i) ++ drop (m * 8) v → Moved v w last m i
 ended v w last m i c e = record { within = omega (arith, c, kept-few v last i); count = c; front = e }
 
 module _ (v w : List ℕ) (last m i : ℕ) (inv : Moved v w last m i) where
-  front-length : length (wordsOf (kept v last i)) ≡ m * 8
-  front-length = omega (arith, length-wordsOf (kept v last i), inv .count)
+  front-length : length (recordWords (kept v last i)) ≡ m * 8
+  front-length = omega (arith, length-recordWords (kept v last i), inv .count)
 
   pub same-size : i * 8 ≤ length v → length w ≡ length v
   same-size h =
       ap length (inv .front)
-      ∙ omega (arith, length-append (wordsOf (kept v last i)) (drop (m * 8) v), front-length, length-drop (m * 8) v, inv .within)
+      ∙ omega (arith, length-append (recordWords (kept v last i)) (drop (m * 8) v), front-length, length-drop (m * 8) v, inv .within)
 
-  front-is : take (m * 8) w ≡ wordsOf (kept v last i)
+  front-is : take (m * 8) w ≡ recordWords (kept v last i)
   front-is = rw (inv .front) (take-at _ _ (m * 8) front-length)
 
   as-came : (k : ℕ) → m * 8 ≤ k → getD w k 0 ≡ getD v k 0
   as-came k h =
       let l = front-length in
-      let z : k ≡ length (wordsOf (kept v last i)) + (k - m * 8) = omega arith in
+      let z : k ≡ length (recordWords (kept v last i)) + (k - m * 8) = omega arith in
       let y : m * 8 + (k - m * 8) ≡ k = omega arith in
       ap (λ (x : List ℕ). getD x k 0) (inv .front)
-      ∙ (ap (λ (j : ℕ). getD (wordsOf (kept v last i) ++ drop (m * 8) v) j 0) z
-      ∙ (getD-append-add (wordsOf (kept v last i)) (drop (m * 8) v) (k - m * 8) 0
+      ∙ (ap (λ (j : ℕ). getD (recordWords (kept v last i) ++ drop (m * 8) v) j 0) z
+      ∙ (getD-append-add (recordWords (kept v last i)) (drop (m * 8) v) (k - m * 8) 0
       ∙ (getD-drop (m * 8) v (k - m * 8) 0 ∙ ap (λ (j : ℕ). getD v j 0) y)))
 
   rest-as-came : (k : ℕ) → m * 8 ≤ k → drop k w ≡ drop k v
   rest-as-came k h =
       let l = front-length in
-      let z : k ≡ length (wordsOf (kept v last i)) + (k - m * 8) = omega arith in
+      let z : k ≡ length (recordWords (kept v last i)) + (k - m * 8) = omega arith in
       let y : m * 8 + (k - m * 8) ≡ k = omega arith in
       ap (λ (x : List ℕ). drop k x) (inv .front)
-      ∙ (ap (λ (j : ℕ). drop j (wordsOf (kept v last i) ++ drop (m * 8) v)) z
-      ∙ (drop-append-add (wordsOf (kept v last i)) (drop (m * 8) v) (k - m * 8)
+      ∙ (ap (λ (j : ℕ). drop j (recordWords (kept v last i) ++ drop (m * 8) v)) z
+      ∙ (drop-append-add (recordWords (kept v last i)) (drop (m * 8) v) (k - m * 8)
       ∙ (drop-drop (k - m * 8) (m * 8) v ∙ ap (λ (j : ℕ). drop j v) y)))
 
   -- zeros behind those in front
   pub cleared : (z : List ℕ) → z ≡ take (m * 8) w ++ (replicate (i * 8 - m * 8) 0 ++ drop (i * 8) w)
-      → z ≡ wordsOf (kept v last i) ++ (replicate ((i - m) * 8) 0 ++ drop (i * 8) v)
+      → z ≡ recordWords (kept v last i) ++ (replicate ((i - m) * 8) 0 ++ drop (i * 8) v)
   cleared z e =
       let y : i * 8 - m * 8 ≡ (i - m) * 8 = omega arith in
       e ∙ rw (front-is, rest-as-came (i * 8) (omega (arith, inv .within)), y)
@@ -131,5 +131,5 @@ module _ (v w : List ℕ) (last m i : ℕ) (inv : Moved v w last m i) where
         record {
           within = omega (arith, inv .within);
           count = omega (arith, inv .count, ap length k, length-append (kept v last i) (x ∷ []));
-          front = q ∙ rw (front-is, b, k, wordsOf-snoc) (simp append-assoc);
+          front = q ∙ rw (front-is, b, k, recordWords-snoc) (simp append-assoc);
         }

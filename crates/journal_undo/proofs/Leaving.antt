@@ -6,23 +6,23 @@ use mathlib.Core.List.{List, _++_}
 use mathlib.Core.Bool.{Bool, true, false, _&&_}
 use native.Mathlib.Omega.{arith}
 use borrow.Author.Tests.{le-leb}
-use lib.Dec.{leb}
 use lib.ListN.{length, drop, replicate, replicate-append-replicate}
 use lib.Seq.{drop-at}
-use Rattle.nights.specs.Record.{Record, wordsOf, recs}
-use Rattle.nights.specs.Net.{capacity, Network as Plain, keep, insertAll, wellFormed}
+use Rattle.nights.specs.Record.{Record, recordWords, recs, recordSize}
+use Rattle.nights.specs.Net.{capacity, Plain, keep, insertAll, wellFormed}
 use Rattle.nights.specs.Journal.{undone, unsend, untake, checked}
 use Rattle.nights.proofs.Order.{length-split, length-insertAll}
-use Rattle.nights.proofs.Undo.{length-wordsOf}
-use Rattle.basis.proofs.Laws.{both}
-use Rattle.network_queue.specs.Packed.{packed}
+use Rattle.nights.proofs.Undo.{length-recordWords}
+use Rattle.network_queue.specs.Packed.{packed, arraySize}
 use Rattle.network_queue.specs.Places.{insertedAll}
 use Rattle.network_queue.proofs.Inserting.{length-recs}
-use Rattle.network_queue.proofs.Packing.{unpacked, repacked, packed-zeros, packed-insertAll}
-use Rattle.network_fates.specs.declared.NetworkOptions.{NetworkOptions}
+use Rattle.network_queue.proofs.Packing.{unpacked, packed-zeros, packed-insertAll}
+use Rattle.network_options.specs.declared.NetworkOptions.{NetworkOptions}
 use Rattle.network.specs.declared.Network.{Network}
 use Rattle.network.specs.Forms.{plainOf, isFormed}
-use Rattle.network.proofs.Maps.{small}
+use Rattle.network_form.specs.Forms.{formedIn}
+use Rattle.network_form.proofs.Maps.{words-are as packed-are}
+use Rattle.network.proofs.Structs.{small}
 use Rattle.journal_undo.specs.Undone.{sealedOf, upTo}
 
 right-true : (a b : Bool) → b ≡ true → a && b ≡ a
@@ -31,14 +31,14 @@ right-true false b e = refl
 
 -- ---- a struct whose words are packed
 
-module _ (s : Network) (l : List Record) (w : s .words ≡ packed l) (p : s .pending ≡ length l) (h : length l ≤ capacity) where
+module _ (s : Network) (l : List Record) (w : s .words ≡ packed l) (p : s .head .pending ≡ length l) (h : length l ≤ capacity) where
   formed-is : isFormed s ≡ wellFormed (plainOf s)
-  unfolding isFormed
+  unfolding formedIn
   formed-is =
       right-true (wellFormed (plainOf s)) _
       (rw (p, w, le-leb (length l) capacity h, packed-zeros l))
 
-  records-are : recs (s .words) 0 (s .pending) ≡ l
+  records-are : recs (s .words) 0 (s .head .pending) ≡ l
   records-are = rw (w, p, unpacked l)
 
   sealed-is : (n : Plain) (b : ℕ) → plainOf s ≡ n → sealedOf s b ≡ checked (undone n b)
@@ -47,52 +47,51 @@ module _ (s : Network) (l : List Record) (w : s .words ≡ packed l) (p : s .pen
 
 -- ---- from a well-formed struct
 
-module _ (s : Network) (f : isFormed s ≡ true) (long : length (s .words) ≡ 1024) where
+module _ (s : Network) (f : isFormed s ≡ true) (long : length (s .words) ≡ arraySize) where
   abbrev held : List Record
-  held = recs (s .words) 0 (s .pending)
+  held = recs (s .words) 0 (s .head .pending)
 
-  held-length : length held ≡ s .pending
-  held-length = length-recs (s .words) 0 (s .pending)
+  held-length : length held ≡ s .head .pending
+  held-length = length-recs (s .words) 0 (s .head .pending)
 
   words-are : s .words ≡ packed held
-  unfolding isFormed
-  words-are =
-      let a = both (wellFormed (plainOf s)) _ f in
-      let b = both (leb (s .pending) capacity) _ (a .1) in
-      sym (repacked (s .words) (s .pending) long (small s f) (b .1))
+  words-are = sym (packed-are (s .head) (s .words) f long)
 
-  behind : drop (s .pending * 8) (s .words) ≡ replicate (1024 - 8 * s .pending) 0
+  behind : drop (s .head .pending * recordSize) (s .words) ≡ replicate (arraySize - recordSize * s .head .pending) 0
   unfolding packed
   behind =
-      ap (λ (x : List ℕ). drop (s .pending * 8) x) words-are
-      ∙ (drop-at (wordsOf held) _ (s .pending * 8) (omega (arith, length-wordsOf held, held-length))
-      ∙ ap (λ (k : ℕ). replicate {A = ℕ} (1024 - 8 * k) 0) held-length)
+      ap (λ (x : List ℕ). drop (s .head .pending * recordSize) x) words-are
+      ∙ (drop-at (recordWords held) _ (s .head .pending * recordSize) (omega (arith, length-recordWords held, held-length))
+      ∙ ap (λ (k : ℕ). replicate {A = ℕ} (arraySize - recordSize * k) 0) held-length)
 
   -- ---- a send
 
   module _ (q l r d m : ℕ) (w : List ℕ) (c : m ≡ length (keep (upTo q) held))
-      (e : w ≡ wordsOf (keep (upTo q) held) ++ (replicate ((s .pending - m) * 8) 0 ++ drop (s .pending * 8) (s .words))) where
-    few : m ≤ s .pending
+      (e : w ≡ recordWords (keep (upTo q) held) ++ (replicate ((s .head .pending - m) * recordSize) 0 ++ drop (s .head .pending * recordSize) (s .words))) where
+    few : m ≤ s .head .pending
     few = omega (arith, c, length-split (upTo q) held, held-length)
 
     unsent-words : w ≡ packed (keep (upTo q) held)
     unfolding packed
     unsent-words =
-        let z : (s .pending - m) * 8 + (1024 - 8 * s .pending) ≡ 1024 - 8 * length (keep (upTo q) held) = omega (arith, few, c, small s f) in
-        rw (e, behind, replicate-append-replicate {A = ℕ} ((s .pending - m) * 8) (1024 - 8 * s .pending) 0, z)
+        let z : (s .head .pending - m) * recordSize + (arraySize - recordSize * s .head .pending) ≡ arraySize - recordSize * length (keep (upTo q) held) = omega (arith, few, c, small s f) in
+        rw (e, behind, replicate-append-replicate {A = ℕ} ((s .head .pending - m) * recordSize) (arraySize - recordSize * s .head .pending) 0, z)
 
     abbrev unsent : Network
     unsent =
         record {
-          options = s .options;
+          head =
+              record {
+                options = s .head .options;
+                pending = m;
+                seq = q;
+                sent = s .head .sent - 1;
+                delivered = s .head .delivered;
+                lost = l;
+                replayed = r;
+                delayed = d;
+              };
           words = w;
-          pending = m;
-          seq = q;
-          sent = s .sent - 1;
-          delivered = s .delivered;
-          lost = l;
-          replayed = r;
-          delayed = d;
         }
 
     pub send-leaves : (b : ℕ) → sealedOf unsent b ≡ checked (undone (unsend q l r d (plainOf s)) b)
@@ -103,32 +102,35 @@ module _ (s : Network) (f : isFormed s ≡ true) (long : length (s .words) ≡ 1
 
   -- ---- a take
 
-  module _ (rs : List Record) (t : ℕ) (w : List ℕ) (c : length rs ≡ t) (room : s .pending + t ≤ capacity)
-      (e : w ≡ insertedAll (s .words) (s .pending) rs) where
+  module _ (rs : List Record) (t : ℕ) (w : List ℕ) (c : length rs ≡ t) (room : s .head .pending + t ≤ capacity)
+      (e : w ≡ insertedAll (s .words) (s .head .pending) rs) where
     untaken-words : w ≡ packed (insertAll rs held)
     untaken-words =
         e
-        ∙ (ap (λ (x : List ℕ). insertedAll x (s .pending) rs) words-are
+        ∙ (ap (λ (x : List ℕ). insertedAll x (s .head .pending) rs) words-are
         ∙ (ap (λ (k : ℕ). insertedAll (packed held) k rs) (sym held-length)
         ∙ packed-insertAll rs held (omega (arith, held-length, c, room))))
 
     abbrev untaken : Network
     untaken =
         record {
-          options = s .options;
+          head =
+              record {
+                options = s .head .options;
+                pending = s .head .pending + t;
+                seq = s .head .seq;
+                sent = s .head .sent;
+                delivered = s .head .delivered - t;
+                lost = s .head .lost;
+                replayed = s .head .replayed;
+                delayed = s .head .delayed;
+              };
           words = w;
-          pending = s .pending + t;
-          seq = s .seq;
-          sent = s .sent;
-          delivered = s .delivered - t;
-          lost = s .lost;
-          replayed = s .replayed;
-          delayed = s .delayed;
         }
 
     pub take-leaves : (b : ℕ) → sealedOf untaken b ≡ checked (undone (untake rs (plainOf s)) b)
     take-leaves b =
-        let p : s .pending + t ≡ length (insertAll rs held) = omega (arith, length-insertAll rs held, held-length, c) in
+        let p : s .head .pending + t ≡ length (insertAll rs held) = omega (arith, length-insertAll rs held, held-length, c) in
         let h : length (insertAll rs held) ≤ capacity = omega (arith, room) in
         sealed-is untaken (insertAll rs held) untaken-words p h (untake rs (plainOf s)) b
         (rw (records-are untaken (insertAll rs held) untaken-words p h, c))
@@ -139,15 +141,18 @@ module _ (s : Network) (f : isFormed s ≡ true) (long : length (s .words) ≡ 1
     abbrev unchosen : Network
     unchosen =
         record {
-          options = o;
+          head =
+              record {
+                options = o;
+                pending = s .head .pending;
+                seq = s .head .seq;
+                sent = s .head .sent;
+                delivered = s .head .delivered;
+                lost = s .head .lost;
+                replayed = s .head .replayed;
+                delayed = s .head .delayed;
+              };
           words = s .words;
-          pending = s .pending;
-          seq = s .seq;
-          sent = s .sent;
-          delivered = s .delivered;
-          lost = s .lost;
-          replayed = s .replayed;
-          delayed = s .delayed;
         }
 
     pub options-leave : (n : Plain) (b : ℕ) → plainOf unchosen ≡ n → sealedOf unchosen b ≡ checked (undone n b)

@@ -10,14 +10,15 @@ use lib.Dec.{leb, eqb}
 use lib.ListN.{length, getD}
 use Rattle.chance.specs.Probability.{goodWord}
 use Rattle.nights.specs.Record.{recs}
-use Rattle.nights.specs.Net.{capacity, Network as Plain, goodOptions, wellFormed}
-use Rattle.nights.specs.Journal.{done, refused, Undone as Told, misfit, undone, unsend, untake, unchoose, undoAs, undoOne, checked}
+use Rattle.nights.specs.Net.{capacity, Plain, goodOptions, wellFormed}
+use Rattle.nights.specs.Tests.{done, refused}
+use Rattle.nights.specs.Journal.{Undone as Told, misfit, undone, unsend, untake, unchoose, undoAs, undoOne, checked}
 use Rattle.network.specs.declared.Network.{Network}
 use Rattle.network.specs.Forms.{isFormed}
-use Rattle.network.specs.Answers.{Count, counting}
-use Rattle.network.specs.Calls.{formAnswer}
-use Rattle.network.proofs.Calling.{form-ill, form-well}
-use Rattle.network_fates.proofs.Failing.{first, second}
+use Rattle.network_take.specs.Takes.{Count, counting}
+use Rattle.network_form.specs.Calls.{formAnswer}
+use Rattle.network.proofs.Structs.{form-ill, form-well}
+use Rattle.nights.proofs.Failing.{first, second}
 use Rattle.journal_undo.specs.declared.Undone.{Undone}
 use Rattle.journal_undo.specs.Undone.{undoneOf, sealedOf}
 
@@ -29,7 +30,7 @@ told-misfit u f h e = (rw (h .0, e), rw (h .1) f)
 
 -- what `pending` answers tells whether a network is well formed
 module _ (s : Network) (n k : ℕ) where
-  pub ill-told : counting (formAnswer s) n ≡ record { answer = refused k; records = 0 } → isFormed s ≡ false
+  pub ill-told : counting (formAnswer (s .head) (s .words)) n ≡ record { answer = refused k; records = 0 } → isFormed s ≡ false
   unfolding counting
   ill-told e = go (isFormed s) refl
     where
@@ -37,7 +38,7 @@ module _ (s : Network) (n k : ℕ) where
       go true h = let a = ap (λ (r : Count). r .answer) (rw (form-well s h) at e) in let z : _≡_ {A = ℕ} 0 1 = cc in absurd (omega arith)
       go false h = refl
 
-  pub well-told : counting (formAnswer s) n ≡ record { answer = done; records = k } → isFormed s ≡ true
+  pub well-told : counting (formAnswer (s .head) (s .words)) n ≡ record { answer = done; records = k } → isFormed s ≡ true
   unfolding counting
   well-told e = go (isFormed s) refl
     where

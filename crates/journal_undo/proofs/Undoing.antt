@@ -8,8 +8,8 @@ use borrow.Author.Tests.{leb-true, leb-false}
 use lib.Dec.{leb, eqb}
 use lib.ListN.{length, getD}
 use Rattle.nights.specs.Record.{recs}
-use Rattle.nights.specs.Net.{capacity, Network as Plain, wellFormed}
-use Rattle.nights.specs.Journal.{Undone as Told, misfit, undone, unsend, untake, unchoose, undoAs, undoOne, checked, onward, undoAll}
+use Rattle.nights.specs.Net.{capacity, Plain, wellFormed}
+use Rattle.nights.specs.Journal.{Undone as Told, misfit, undone, unsend, untake, unchoose, undoAs, undoOne, checked, further, undoAll}
 use Rattle.network.specs.Forms.{plainOf, isFormed}
 use Rattle.journal_undo.specs.declared.Undone.{Undone}
 use Rattle.journal_undo.specs.Undone.{undoneOf}
@@ -63,11 +63,11 @@ module _ (n : Plain) (w : List ℕ) (e : ℕ) (m : Plain) (c : ℕ) (h : checked
 -- ---- the walk
 
 all-stop : (k : ℕ) (n : Plain) (w : List ℕ) (e : ℕ) → checked (undoOne n w e) ≡ misfit → undoAll (suc k) n w e ≡ misfit
-unfolding undoAll onward
+unfolding undoAll further
 all-stop k n w e h = rw h
 
 all-on : (k : ℕ) (n : Plain) (w : List ℕ) (e : ℕ) (m : Plain) (c : ℕ) → checked (undoOne n w e) ≡ undone m c → undoAll (suc k) n w e ≡ undoAll k m w c
-unfolding undoAll onward
+unfolding undoAll further
 all-on k n w e m c h = rw h
 
 -- after some records the others are still to be undone

@@ -8,21 +8,22 @@ use journal_ledger::SEND;
 use journal_ledger::SEND_WORDS;
 use journal_ledger::TAKE;
 use journal_ledger::TAKE_WORDS;
-use network::Counted;
 use network::Network;
-use network_fates::NetworkOptions;
+use network_options::NetworkOptions;
+use network_take::Counted;
 ghost use mathlib.Core.Path.{_≡_};
 ghost use mathlib.Core.Bool.{true, false};
 ghost use mathlib.Core.List.{_++_};
 ghost use Prim.Native.Nat.{_+_, _-_, _*_, _≤_};
 ghost use lib.ListN.{length, drop, replicate};
-ghost use Rattle.nights.specs.Record.{wordsOf, recordAt, recs};
-ghost use Rattle.nights.specs.Net.{keep};
+ghost use Rattle.nights.specs.Record.{recordWords, recordAt, recs, recordSize};
+ghost use Rattle.nights.specs.Net.{keep, capacity};
 ghost use Rattle.nights.specs.Journal.{undoAs, undoOne, checked, undoAll};
 ghost use Rattle.network_queue.specs.Plain.{plainRecord};
 ghost use Rattle.network_queue.specs.Places.{insertedAll};
 ghost use Rattle.network.specs.Forms.{plainOf, isFormed};
 ghost use Rattle.journal_undo.specs.Undone.{undoneOf, sealedOf, upTo};
+ghost use Rattle.network_queue.specs.Packed.{arraySize};
 
 // What undoing gives: the network from before, and where in the journal the undone records start. Where one does not fit, neither
 // says anything.
@@ -63,9 +64,9 @@ fn sealed(before: Network, after: Network, start: usize) -> Undone
 
 // Those of the first n records whose number is at most `last` move to the front, in their order; how many they are.
 fn keep_front(w: &mut [u64; network_queue::WORDS], n: usize, last: u64) -> usize
-    requires { ⌜ (length (now w) ≡ 1024) × (n ≤ 128) ⌝ }
+    requires { ⌜ (length (now w) ≡ arraySize) × (n ≤ capacity) ⌝ }
     ensures count { λ m. ⌜ m ≡ length (keep (upTo last) (recs (now (w .entry)) 0 n)) ⌝ }
-    ensures words { λ m. ⌜ now (w .exit) ≡ wordsOf (keep (upTo last) (recs (now (w .entry)) 0 n)) ++ drop (m * 8) (now (w .entry)) ⌝ }
+    ensures words { λ m. ⌜ now (w .exit) ≡ recordWords (keep (upTo last) (recs (now (w .entry)) 0 n)) ++ drop (m * recordSize) (now (w .entry)) ⌝ }
 {
     let mut m: usize = 0;
     let mut i: usize = 0;
@@ -82,9 +83,9 @@ fn keep_front(w: &mut [u64; network_queue::WORDS], n: usize, last: u64) -> usize
 
 // The records numbered above `last` are dropped, and zeros stand behind the others.
 fn drop_above(w: &mut [u64; network_queue::WORDS], n: usize, last: u64) -> usize
-    requires { ⌜ (length (now w) ≡ 1024) × (n ≤ 128) ⌝ }
+    requires { ⌜ (length (now w) ≡ arraySize) × (n ≤ capacity) ⌝ }
     ensures count { λ m. ⌜ m ≡ length (keep (upTo last) (recs (now (w .entry)) 0 n)) ⌝ }
-    ensures words { λ m. ⌜ now (w .exit) ≡ wordsOf (keep (upTo last) (recs (now (w .entry)) 0 n)) ++ (replicate ((n - m) * 8) 0 ++ drop (n * 8) (now (w .entry))) ⌝ }
+    ensures words { λ m. ⌜ now (w .exit) ≡ recordWords (keep (upTo last) (recs (now (w .entry)) 0 n)) ++ (replicate ((n - m) * recordSize) 0 ++ drop (n * recordSize) (now (w .entry))) ⌝ }
 {
     let m = keep_front(w, n, last);
     network_queue::clear(
@@ -104,26 +105,31 @@ fn undo_send(network: Network, journal: &[u64], start: usize, end: usize) -> Und
     if end - start != SEND_WORDS {
         return misfit(network);
     }
-    if network.sent == 0 {
+    let mut head = network.head;
+    if head.sent == 0 {
         return misfit(network);
     }
-    let mut me = network;
-    let n = me.pending;
+    let mut words = network.words;
+    let n = head.pending;
     let seq = journal[start];
-    me.pending = drop_above(&mut me.words, n, seq);
-    me.seq = seq;
-    me.sent = me.sent - 1;
-    me.lost = journal[start + 1];
-    me.replayed = journal[start + 2];
-    me.delayed = journal[start + 3];
-    sealed(network, me, start)
+    head.pending = drop_above(&mut words, n, seq);
+    head.seq = seq;
+    head.sent = head.sent - 1;
+    head.lost = journal[start + 1];
+    head.replayed = journal[start + 2];
+    head.delayed = journal[start + 3];
+    let before = Network {
+        head: head,
+        words: words,
+    };
+    sealed(network, before, start)
 }
 
 // ---- A take
 
 // The record whose words start at b of a journal.
 fn record_at(journal: &[u64], b: usize) -> network_queue::Record
-    requires { ⌜ b + 8 ≤ length (now journal) ⌝ }
+    requires { ⌜ b + recordSize ≤ length (now journal) ⌝ }
     ensures { λ r. ⌜ plainRecord r ≡ recordAt (now (journal .entry)) b ⌝ }
 {
     network_queue::Record {
@@ -140,7 +146,7 @@ fn record_at(journal: &[u64], b: usize) -> network_queue::Record
 
 // The t records that a journal has from b on, each put into its place, the first among the first n.
 fn put_back(w: &mut [u64; network_queue::WORDS], n: usize, journal: &[u64], b: usize, t: usize)
-    requires { ⌜ (length (now w) ≡ 1024) × (n + t ≤ 128) × (b + 8 * t ≤ length (now journal)) ⌝ }
+    requires { ⌜ (length (now w) ≡ arraySize) × (n + t ≤ capacity) × (b + recordSize * t ≤ length (now journal)) ⌝ }
     ensures { λ _. ⌜ now (w .exit) ≡ insertedAll (now (w .entry)) n (recs (now (journal .entry)) b t) ⌝ }
 {
     let mut i: usize = 0;
@@ -165,18 +171,23 @@ fn undo_take(network: Network, journal: &[u64], start: usize, end: usize) -> Und
     if t * network_queue::RECORD_SIZE + TAKE_WORDS != size {
         return misfit(network);
     }
-    if network.delivered < t as u64 {
+    let mut head = network.head;
+    if head.delivered < t as u64 {
         return misfit(network);
     }
-    let mut me = network;
-    let n = me.pending;
+    let n = head.pending;
     if network_queue::CAPACITY < n + t {
         return misfit(network);
     }
-    put_back(&mut me.words, n, journal, start, t);
-    me.pending = n + t;
-    me.delivered = me.delivered - t as u64;
-    sealed(network, me, start)
+    let mut words = network.words;
+    put_back(&mut words, n, journal, start, t);
+    head.pending = n + t;
+    head.delivered = head.delivered - t as u64;
+    let before = Network {
+        head: head,
+        words: words,
+    };
+    sealed(network, before, start)
 }
 
 // ---- A change of options
@@ -210,9 +221,14 @@ fn undo_options(network: Network, journal: &[u64], start: usize, end: usize) -> 
         one_way_delay_mean: journal[start + 3],
         fault_client_messages: flag == 1,
     };
-    let mut me = network;
-    me.options = old;
-    sealed(network, me, start)
+    let mut head = network.head;
+    head.options = old;
+    let words = network.words;
+    let before = Network {
+        head: head,
+        words: words,
+    };
+    sealed(network, before, start)
 }
 
 // ---- Records

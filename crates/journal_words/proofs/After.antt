@@ -6,16 +6,16 @@ use mathlib.Core.Bool.{Bool, true, false}
 use mathlib.Core.List.{List}
 use native.Mathlib.Omega.{arith}
 use Rattle.nights.specs.Draws.{fateOf}
-use Rattle.nights.specs.Journal.{Answer, done, refused, Call, State, Step, step}
+use Rattle.nights.specs.Tests.{Answer, done, refused, ifDone}
+use Rattle.nights.specs.Journal.{Call, State, Step, step}
 use Rattle.nights.proofs.Steps.{refused-stays, step-keeps}
 use Rattle.network.specs.declared.Network.{Network}
-use Rattle.network.specs.Forms.{structOf, isFormed, headOf}
-use Rattle.network.specs.Calls.{settling}
-use Rattle.network.proofs.Maps.{plain-formed, struct-formed}
+use Rattle.network.specs.Forms.{structOf, isFormed}
+use Rattle.network.proofs.Structs.{plain-formed, struct-formed}
 use Rattle.journal_calls.specs.Calls.{stateOf, stepOf, answerOf, wordsAfter, networkAfter}
-use Rattle.network_words.specs.Layout.{headFits, headWords, networkIn}
-use Rattle.network_words.proofs.Told.{Kept, Done, read-kept, read-finished}
-use Rattle.journal_words.specs.Calls.{journalAnswer, journalHead, journalRecords, journalWords}
+use Rattle.network_words.specs.Layout.{headFits, headWords}
+use Rattle.journal_words.specs.Calls.{networkIn, journalAnswer, journalHead, journalRecords, journalWords}
+use Rattle.journal_words.proofs.Told.{Kept, Done, read-kept, read-finished}
 
 module _ (c : Call) (s : Network) (j : List ℕ) where
   well : isFormed s ≡ true → stepOf c s j ≡ step fateOf (stateOf s j) c
@@ -38,7 +38,7 @@ module _ (c : Call) (s : Network) (j : List ℕ) where
 
   -- a call that is done leaves a well-formed network
   stays-formed : answerOf c s j ≡ done → isFormed (networkAfter c s j) ≡ true
-  unfolding settling
+  unfolding ifDone
   stays-formed e = rw e (go (isFormed s) refl)
     where
       go : (b : Bool) → isFormed s ≡ b → isFormed (structOf (stepOf c s j .state .net)) ≡ true
@@ -66,7 +66,7 @@ module _ (c : Call) (h r j : List ℕ) (f : headFits h ≡ true) (t : Network) (
   pub record Written : Type 0 where
     pub finished : Done (journalAnswer c h r j)
     pub formed : isFormed t ≡ true
-    pub head : headWords (headOf t) ≡ journalHead c h r j
+    pub head : headWords (t .head) ≡ journalHead c h r j
     pub records : t .words ≡ journalRecords c h r j
     pub journal : v ≡ journalWords c h r j
 
@@ -76,7 +76,7 @@ module _ (c : Call) (h r j : List ℕ) (f : headFits h ≡ true) (t : Network) (
       record {
         finished = d;
         formed = ap isFormed n ∙ stays-formed c (networkIn h r) j e;
-        head = ap (λ (x : Network). headWords (headOf x)) n ∙ d .words _ h;
+        head = ap (λ (x : Network). headWords (x .head)) n ∙ d .words _ h;
         records = ap (λ (x : Network). x .words) n ∙ d .words _ r;
         journal = w ∙ d .words _ j;
       }

@@ -2,21 +2,30 @@
 -- no head are 23, and a refusal leaves every word as it came. Assumes nothing.
 use mathlib.Core.List.{List}
 use Prim.Native.Nat.{ℕ}
-use Rattle.nights.specs.Journal.{Answer, Call}
-use Rattle.network.specs.Forms.{headOf}
+use Rattle.nights.specs.Tests.{Answer, ifDone}
+use Rattle.nights.specs.Journal.{Call}
+use Rattle.network_form.specs.declared.Head.{Head}
+use Rattle.network.specs.declared.Network.{Network}
 use Rattle.journal_calls.specs.Calls.{answerOf, wordsAfter, networkAfter}
-use Rattle.network_words.specs.Layout.{headWords, networkIn}
-use Rattle.network_words.specs.Calls.{onDone, ifHead}
+use Rattle.network_words.specs.Layout.{headIn, headWords}
+use Rattle.network_words.specs.Calls.{ifHead}
+
+-- the network of a head and its records, and that of a head's words and records
+abbrev pub joined : Head → List ℕ → Network
+joined h w = record { head = h; words = w }
+
+abbrev pub networkIn : List ℕ → List ℕ → Network
+networkIn h r = joined (headIn h) r
 
 module _ (c : Call) (h r j : List ℕ) where
   abbrev pub journalAnswer : Answer
   journalAnswer = ifHead h (answerOf c (networkIn h r) j)
 
   abbrev pub journalHead : List ℕ
-  journalHead = onDone journalAnswer (headWords (headOf (networkAfter c (networkIn h r) j))) h
+  journalHead = ifDone journalAnswer (headWords (networkAfter c (networkIn h r) j .head)) h
 
   abbrev pub journalRecords : List ℕ
-  journalRecords = onDone journalAnswer (networkAfter c (networkIn h r) j .words) r
+  journalRecords = ifDone journalAnswer (networkAfter c (networkIn h r) j .words) r
 
   abbrev pub journalWords : List ℕ
-  journalWords = onDone journalAnswer (wordsAfter c (networkIn h r) j) j
+  journalWords = ifDone journalAnswer (wordsAfter c (networkIn h r) j) j

@@ -1,30 +1,34 @@
 // The journal over lent words: a network's head and records as in `network_words`, and the journal's own words. A call answers 0, or
 // the number of its refusal; then no lent word is changed, those lent for the answer included. The network is read into a value and
 // written back, since a journaled call can still be refused once its network is known.
-use network::Counted;
-use network::Head;
 use network::Network;
-use network::SendAnswer;
-use network_fates::NetworkOptions;
-use network_fates::Settled;
+use network_form::Head;
+use network_options::NetworkOptions;
+use network_options::Settled;
+use network_queue::WORDS;
+use network_send::SendAnswer;
+use network_take::Counted;
+use network_words::HEAD_WORDS;
+use network_words::ILL_FORMED;
 ghost use mathlib.Core.Path.{_≡_};
 ghost use mathlib.Core.Bool.{true};
 ghost use mathlib.Core.List.{[], _∷_};
 ghost use lib.Dec.{T};
 ghost use lib.ListN.{length};
 ghost use Rattle.chance.specs.Probability.{goodWord};
-ghost use Rattle.nights.specs.Record.{wordsOf};
+ghost use Rattle.nights.specs.Record.{recordWords};
 ghost use Rattle.nights.specs.Net.{keep, isDue};
 ghost use Rattle.nights.specs.Draws.{decided};
 ghost use Rattle.nights.specs.Journal.{rewind};
-ghost use Rattle.network_fates.specs.Answers.{settledOf};
-ghost use Rattle.network.specs.Forms.{plainOf, isFormed, headOf, joined};
-ghost use Rattle.network_fates.specs.Options.{structOptions};
-ghost use Rattle.network.specs.Calls.{written};
-ghost use Rattle.network_words.specs.Layout.{optionsFrom, networkIn, headWords};
-ghost use Rattle.network_words.specs.Calls.{numberOf, onDone, sendTold};
+ghost use Rattle.network_options.specs.Answers.{settledOf};
+ghost use Rattle.network.specs.Forms.{plainOf, isFormed};
+ghost use Rattle.network_options.specs.Options.{structOptions};
+ghost use Rattle.network_form.specs.Calls.{written};
+ghost use Rattle.network_words.specs.Layout.{optionsFrom, headWords};
+ghost use Rattle.journal_words.specs.Calls.{joined, networkIn, journalAnswer, journalHead, journalRecords, journalWords};
+ghost use Rattle.network_words.specs.Calls.{numberOf, sendTold};
+ghost use Rattle.nights.specs.Tests.{ifDone};
 ghost use Rattle.journal_calls.specs.Calls.{sends, takes, chooses, markAnswer, markWords};
-ghost use Rattle.journal_words.specs.Calls.{journalAnswer, journalHead, journalRecords, journalWords};
 
 // The number of a call that has nothing more to tell.
 fn settled_number(answer: Settled) -> u64
@@ -32,25 +36,28 @@ fn settled_number(answer: Settled) -> u64
 {
     match answer {
         Settled::Done => 0,
-        Settled::Refused(refusal) => network_words::number_of(refusal),
+        Settled::Refused(refusal) => network_options::number_of(refusal),
     }
 }
 
 // The network of a head and its records.
-fn read(head: Head, records: &[u64; 1024]) -> Network
+fn read(head: Head, records: &[u64; WORDS]) -> Network
     ensures { λ r. ⌜ r ≡ joined head (now (records .entry)) ⌝ }
 {
     let words = *records;
-    head.with(words)
+    Network {
+        head: head,
+        words: words,
+    }
 }
 
 // The words of a well-formed network.
-fn write(network: Network, head: &mut [u64; 12], records: &mut [u64; 1024])
+fn write(network: Network, head: &mut [u64; HEAD_WORDS], records: &mut [u64; WORDS])
     requires { ⌜ isFormed network ≡ true ⌝ }
-    ensures head { λ _. ⌜ now (head .exit) ≡ headWords (headOf network) ⌝ }
+    ensures head { λ _. ⌜ now (head .exit) ≡ headWords (network .head) ⌝ }
     ensures records { λ _. ⌜ now (records .exit) ≡ network .words ⌝ }
 {
-    network_words::store(network.head(), head);
+    network_words::store(network.head, head);
     let words = network.words;
     *records = words;
 }
@@ -65,8 +72,8 @@ pub fn mark(journal: &mut [u64]) -> u64
 
 // A journaled send.
 pub fn send(
-    head: &mut [u64; 12],
-    records: &mut [u64; 1024],
+    head: &mut [u64; HEAD_WORDS],
+    records: &mut [u64; WORDS],
     now: u64,
     sort: u64,
     origin: u64,
@@ -78,15 +85,21 @@ pub fn send(
     journal: &mut [u64],
     told: &mut [u64; 4],
 ) -> u64
-    ensures answer { λ r. ⌜ r ≡ numberOf (journalAnswer (sends now sort origin to kind handle (draws .entry .now) (extras .entry .now)) (head .entry .now) (records .entry .now) (journal .entry .now)) ⌝ }
-    ensures head { λ _. ⌜ head .exit .now ≡ journalHead (sends now sort origin to kind handle (draws .entry .now) (extras .entry .now)) (head .entry .now) (records .entry .now) (journal .entry .now) ⌝ }
-    ensures records { λ _. ⌜ records .exit .now ≡ journalRecords (sends now sort origin to kind handle (draws .entry .now) (extras .entry .now)) (head .entry .now) (records .entry .now) (journal .entry .now) ⌝ }
-    ensures journal { λ _. ⌜ journal .exit .now ≡ journalWords (sends now sort origin to kind handle (draws .entry .now) (extras .entry .now)) (head .entry .now) (records .entry .now) (journal .entry .now) ⌝ }
-    ensures told { λ _. ⌜ told .exit .now ≡ onDone (journalAnswer (sends now sort origin to kind handle (draws .entry .now) (extras .entry .now)) (head .entry .now) (records .entry .now) (journal .entry .now)) (sendTold (decided (plainOf (networkIn (head .entry .now) (records .entry .now)) .options) now kind (draws .entry .now) (extras .entry .now))) (told .entry .now) ⌝ }
+    ensures answer { λ r. ⌜ r
+        ≡ numberOf (journalAnswer (sends now sort origin to kind handle (draws .entry .now) (extras .entry .now)) (head .entry .now) (records .entry .now) (journal .entry .now)) ⌝ }
+    ensures head { λ _. ⌜ head .exit .now
+        ≡ journalHead (sends now sort origin to kind handle (draws .entry .now) (extras .entry .now)) (head .entry .now) (records .entry .now) (journal .entry .now) ⌝ }
+    ensures records { λ _. ⌜ records .exit .now
+        ≡ journalRecords (sends now sort origin to kind handle (draws .entry .now) (extras .entry .now)) (head .entry .now) (records .entry .now) (journal .entry .now) ⌝ }
+    ensures journal { λ _. ⌜ journal .exit .now
+        ≡ journalWords (sends now sort origin to kind handle (draws .entry .now) (extras .entry .now)) (head .entry .now) (records .entry .now) (journal .entry .now) ⌝ }
+    ensures told { λ _. ⌜ told .exit .now
+        ≡ ifDone (journalAnswer (sends now sort origin to kind handle (draws .entry .now) (extras .entry .now)) (head .entry .now) (records .entry .now) (journal .entry .now))
+        (sendTold (decided (plainOf (networkIn (head .entry .now) (records .entry .now)) .options) now kind (draws .entry .now) (extras .entry .now))) (told .entry .now) ⌝ }
 {
     let loaded = network_words::load(head);
     if !loaded.fits {
-        return network_words::ILL_FORMED;
+        return ILL_FORMED;
     }
     let network = read(loaded.head, records);
     let sent = journal_send::send(
@@ -103,7 +116,7 @@ pub fn send(
     );
     let answer = sent.answer;
     match answer {
-        SendAnswer::Refused(refusal) => network_words::number_of(refusal),
+        SendAnswer::Refused(refusal) => network_options::number_of(refusal),
         SendAnswer::Accepted {
             lost,
             replayed,
@@ -124,8 +137,8 @@ pub fn send(
 
 // A journaled take.
 pub fn take_due(
-    head: &mut [u64; 12],
-    records: &mut [u64; 1024],
+    head: &mut [u64; HEAD_WORDS],
+    records: &mut [u64; WORDS],
     now: u64,
     out: &mut [u64],
     journal: &mut [u64],
@@ -134,19 +147,23 @@ pub fn take_due(
     ensures answer { λ r. ⌜ r ≡ numberOf (journalAnswer (takes now (length (out .entry .now))) (head .entry .now) (records .entry .now) (journal .entry .now)) ⌝ }
     ensures head { λ _. ⌜ head .exit .now ≡ journalHead (takes now (length (out .entry .now))) (head .entry .now) (records .entry .now) (journal .entry .now) ⌝ }
     ensures records { λ _. ⌜ records .exit .now ≡ journalRecords (takes now (length (out .entry .now))) (head .entry .now) (records .entry .now) (journal .entry .now) ⌝ }
-    ensures out { λ _. ⌜ out .exit .now ≡ written (journalAnswer (takes now (length (out .entry .now))) (head .entry .now) (records .entry .now) (journal .entry .now)) (wordsOf (keep (isDue now) (plainOf (networkIn (head .entry .now) (records .entry .now)) .pending))) (out .entry .now) ⌝ }
+    ensures out { λ _. ⌜ out .exit .now
+        ≡ written (journalAnswer (takes now (length (out .entry .now))) (head .entry .now) (records .entry .now) (journal .entry .now))
+        (recordWords (keep (isDue now) (plainOf (networkIn (head .entry .now) (records .entry .now)) .pending))) (out .entry .now) ⌝ }
     ensures journal { λ _. ⌜ journal .exit .now ≡ journalWords (takes now (length (out .entry .now))) (head .entry .now) (records .entry .now) (journal .entry .now) ⌝ }
-    ensures told { λ _. ⌜ told .exit .now ≡ onDone (journalAnswer (takes now (length (out .entry .now))) (head .entry .now) (records .entry .now) (journal .entry .now)) (length (keep (isDue now) (plainOf (networkIn (head .entry .now) (records .entry .now)) .pending)) ∷ []) (told .entry .now) ⌝ }
+    ensures told { λ _. ⌜ told .exit .now
+        ≡ ifDone (journalAnswer (takes now (length (out .entry .now))) (head .entry .now) (records .entry .now) (journal .entry .now))
+        (length (keep (isDue now) (plainOf (networkIn (head .entry .now) (records .entry .now)) .pending)) ∷ []) (told .entry .now) ⌝ }
 {
     let loaded = network_words::load(head);
     if !loaded.fits {
-        return network_words::ILL_FORMED;
+        return ILL_FORMED;
     }
     let network = read(loaded.head, records);
     let taken = journal_take::take_due(network, now, out, journal);
     let answer = taken.answer;
     match answer {
-        Counted::Refused(refusal) => network_words::number_of(refusal),
+        Counted::Refused(refusal) => network_options::number_of(refusal),
         Counted::Records(count) => {
             write(taken.network, head, records);
             *told = [count as u64];
@@ -171,8 +188,8 @@ fn options_of(loss: u64, replay: u64, min: u64, mean: u64, flag: u64) -> Network
 
 // A journaled change of the options.
 pub fn set_options(
-    head: &mut [u64; 12],
-    records: &[u64; 1024],
+    head: &mut [u64; HEAD_WORDS],
+    records: &[u64; WORDS],
     loss: u64,
     replay: u64,
     min: u64,
@@ -186,11 +203,11 @@ pub fn set_options(
 {
     let loaded = network_words::load(head);
     if !loaded.fits {
-        return network_words::ILL_FORMED;
+        return ILL_FORMED;
     }
-    network_words::whole(records);
-    if !network::formed(records, loaded.head) {
-        return network_words::ILL_FORMED;
+    network_queue::whole(records);
+    if !network_form::formed(records, loaded.head) {
+        return ILL_FORMED;
     }
     let number = network_words::options_number(loss, replay, min, mean);
     if number != 0 {
@@ -202,14 +219,19 @@ pub fn set_options(
     let answer = next.answer;
     let Settled::Refused(refusal) = answer else {
         let after = next.network;
-        network_words::store(after.head(), head);
+        network_words::store(after.head, head);
         return 0;
     };
-    network_words::number_of(refusal)
+    network_options::number_of(refusal)
 }
 
 // Goes back over the last k calls held.
-pub fn rewind(head: &mut [u64; 12], records: &mut [u64; 1024], k: u64, journal: &mut [u64]) -> u64
+pub fn rewind(
+    head: &mut [u64; HEAD_WORDS],
+    records: &mut [u64; WORDS],
+    k: u64,
+    journal: &mut [u64],
+) -> u64
     ensures answer { λ r. ⌜ r ≡ numberOf (journalAnswer (rewind k) (now (head .entry)) (now (records .entry)) (now (journal .entry))) ⌝ }
     ensures head { λ _. ⌜ now (head .exit) ≡ journalHead (rewind k) (now (head .entry)) (now (records .entry)) (now (journal .entry)) ⌝ }
     ensures records { λ _. ⌜ now (records .exit) ≡ journalRecords (rewind k) (now (head .entry)) (now (records .entry)) (now (journal .entry)) ⌝ }
@@ -217,7 +239,7 @@ pub fn rewind(head: &mut [u64; 12], records: &mut [u64; 1024], k: u64, journal: 
 {
     let loaded = network_words::load(head);
     if !loaded.fits {
-        return network_words::ILL_FORMED;
+        return ILL_FORMED;
     }
     let network = read(loaded.head, records);
     let next = journal_rewind::rewind(network, k, journal);
@@ -226,5 +248,5 @@ pub fn rewind(head: &mut [u64; 12], records: &mut [u64; 1024], k: u64, journal: 
         write(next.network, head, records);
         return 0;
     };
-    network_words::number_of(refusal)
+    network_options::number_of(refusal)
 }

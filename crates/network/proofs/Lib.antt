@@ -1,5 +1,3 @@
 -- Laws that belong to no one function.
-pub mod WholeForm
-pub mod Maps
-pub mod Calling
-pub mod Laws
+pub mod Choosing
+pub mod Structs

@@ -1,4 +1,3 @@
--- The definitions that the crate's contracts cite: the code's structs and enums in their plain form, and its calls.
-pub mod Answers
+-- The definitions that the crate's contracts cite: the code's network in its plain form, and its calls.
 pub mod Forms
 pub mod Calls

@@ -8,18 +8,15 @@ use native.Mathlib.Numerals.{add-one}
 use borrow.Author.Tests.{ne-eqb}
 use lib.ListN.{length, take, drop, length-drop}
 use lib.Seq.{take-all}
-use Rattle.nights.specs.Net.{Network as Plain, Plain as Call, send, effect}
-use Rattle.nights.specs.Draws.{fateOf}
-use Rattle.nights.specs.Journal.{Answer, done, refused}
-use Rattle.network_queue.proofs.Packing.{length-packed}
-use Rattle.network.specs.declared.Network.{Network}
-use Rattle.network.specs.Forms.{plainOf, structOf, joined, isFormed}
-use Rattle.network.specs.Calls.{callAnswer, callNetwork}
-use Rattle.network.proofs.Maps.{small}
-use Rattle.network.proofs.Calling.{follows}
-use Rattle.network.proofs.Laws.{stays-formed}
+use Rattle.nights.specs.Net.{Change}
+use Rattle.nights.specs.Tests.{Answer, done, refused}
+use Rattle.network_queue.specs.Packed.{arraySize}
+use Rattle.network_form.specs.declared.Head.{Head}
+use Rattle.network_form.specs.Forms.{formedIn}
+use Rattle.network_form.specs.Calls.{answerIn, headAfter, recordsAfter}
+use Rattle.network_form.proofs.Laws.{stays-formed, stays-long}
 use Rattle.network_batch.specs.declared.Run.{Run}
-use Rattle.network_batch.specs.Ticks.{all, stopped, onward, letterAt, drawnBy, sendsFrom, ranOf}
+use Rattle.network_batch.specs.Ticks.{all, stopped, unlessRefused, letterAt, callAt, drawnBy, sendsFrom, ranOf}
 use Rattle.network_batch.proofs.Using.{send-number}
 
 -- what is left of a list, lent up to its end
@@ -30,22 +27,16 @@ pub within-left : (l : List ℕ) (d n k : ℕ) → d ≤ length l → n ≡ k �
 within-left l d n k h e f = omega (arith, length-drop d l)
 
 -- a well-formed network of whole records
-pub record Whole (s : Network) : Type 0 where
-  pub formed : isFormed s ≡ true
-  pub long : length (s .words) ≡ 1024
+pub record Whole (h : Head) (w : List ℕ) : Type 0 where
+  pub formed : formedIn h w ≡ true
+  pub long : length w ≡ arraySize
 
 -- an accepted call leaves one
-pub stays-whole : (c : Call) (s : Network) → callAnswer c s ≡ done → Whole (callNetwork c s)
-stays-whole c s e = record { formed = stays-formed c s e; long = ap (λ (x : Network). length (x .words)) (sym f) ∙ length-packed (n .pending) few }
-  where
-    n : Plain
-    n = effect fateOf c (plainOf s)
+pub stays-whole : (c : Change) (h : Head) (w : List ℕ) → answerIn c h w ≡ done → Whole (headAfter c h w) (recordsAfter c h w)
+stays-whole c h w e = record { formed = stays-formed c h w e; long = stays-long c h w e }
 
-    f : structOf n ≡ callNetwork c s
-    f = follows s c e
-
-    few : length (n .pending) ≤ 128
-    few = omega (arith, ap (λ (x : Network). x .pending) f, small (callNetwork c s) (stays-formed c s e))
+pub whole-again : (h t : Head) (w v : List ℕ) → t ≡ h → v ≡ w → Whole h w → Whole t v
+whole-again h t w v p q o = rw (p, q) o
 
 -- a refusal's number and place
 pub record Stop (place left k p : ℕ) : Type 0 where
@@ -53,70 +44,67 @@ pub record Stop (place left k p : ℕ) : Type 0 where
   pub within : p < place + left
 
 module _ (sends draws extras : List ℕ) where
-  -- the send at a place, after so many draws and extras
-  abbrev pub callAt : (place d x : ℕ) → Call
-  callAt place d x = send (letterAt sends place) (drop d draws) (drop x extras)
-
   -- ---- one more
-  module _ (left place d x : ℕ) (s : Network) where
-    pub goes-on : callAnswer (callAt place d x) s ≡ done
-        → sendsFrom sends draws extras (suc left) place d x s
-        ≡ sendsFrom sends draws extras left (suc place) (d + drawnBy sends draws extras place d x s .draws) (x + drawnBy sends draws extras place d x s .extras) (callNetwork (callAt place d x) s)
-    unfolding sendsFrom onward
+  module _ (left place d x : ℕ) (h : Head) (w : List ℕ) where
+    pub goes-on : answerIn (callAt sends draws extras place d x) h w ≡ done
+        → sendsFrom sends draws extras (suc left) place d x h w
+        ≡ sendsFrom sends draws extras left (suc place) (d + drawnBy sends draws extras place d x h .draws) (x + drawnBy sends draws extras place d x h .extras)
+        (headAfter (callAt sends draws extras place d x) h w) (recordsAfter (callAt sends draws extras place d x) h w)
+    unfolding sendsFrom unlessRefused
     goes-on e = rw e
 
-    pub stops : (k : ℕ) → callAnswer (callAt place d x) s ≡ refused k → sendsFrom sends draws extras (suc left) place d x s ≡ stopped k place
-    unfolding sendsFrom onward
+    pub stops : (k : ℕ) → answerIn (callAt sends draws extras place d x) h w ≡ refused k → sendsFrom sends draws extras (suc left) place d x h w ≡ stopped k place
+    unfolding sendsFrom unlessRefused
     stops k e = rw e
 
   -- ---- a turn at a place
-  module _ (count i d x : ℕ) (s : Network) where
-    pub turn-goes : i < count → callAnswer (callAt i d x) s ≡ done
-        → (n m : ℕ) → n ≡ drawnBy sends draws extras i d x s .draws → m ≡ drawnBy sends draws extras i d x s .extras
-        → (t : Network) → t ≡ callNetwork (callAt i d x) s
-        → sendsFrom sends draws extras (count - i) i d x s ≡ sendsFrom sends draws extras (count - (i + 1)) (i + 1) (d + n) (x + m) t
-    turn-goes h a n m p q t r =
+  module _ (count i d x : ℕ) (h : Head) (w : List ℕ) where
+    pub turn-goes : i < count → answerIn (callAt sends draws extras i d x) h w ≡ done
+        → (n m : ℕ) → n ≡ drawnBy sends draws extras i d x h .draws → m ≡ drawnBy sends draws extras i d x h .extras
+        → (t : Head) (v : List ℕ) → t ≡ headAfter (callAt sends draws extras i d x) h w → v ≡ recordsAfter (callAt sends draws extras i d x) h w
+        → sendsFrom sends draws extras (count - i) i d x h w ≡ sendsFrom sends draws extras (count - (i + 1)) (i + 1) (d + n) (x + m) t v
+    turn-goes q a n m p u t v r y =
         let z : count - i ≡ suc (count - (i + 1)) = omega arith in
-        ap (λ (k : ℕ). sendsFrom sends draws extras k i d x s) z
-        ∙ (goes-on (count - (i + 1)) i d x s a ∙ rw (add-one i, p, q, r))
+        ap (λ (k : ℕ). sendsFrom sends draws extras k i d x h w) z
+        ∙ (goes-on (count - (i + 1)) i d x h w a ∙ rw (add-one i, p, u, r, y))
 
-    pub turn-stops : i < count → (k : ℕ) → callAnswer (callAt i d x) s ≡ refused k → sendsFrom sends draws extras (count - i) i d x s ≡ stopped k i
-    turn-stops h k a =
+    pub turn-stops : i < count → (k : ℕ) → answerIn (callAt sends draws extras i d x) h w ≡ refused k → sendsFrom sends draws extras (count - i) i d x h w ≡ stopped k i
+    turn-stops q k a =
         let z : count - i ≡ suc (count - (i + 1)) = omega arith in
-        ap (λ (j : ℕ). sendsFrom sends draws extras j i d x s) z ∙ stops (count - (i + 1)) i d x s k a
+        ap (λ (j : ℕ). sendsFrom sends draws extras j i d x h w) z ∙ stops (count - (i + 1)) i d x h w k a
 
-    pub all-sent : count ≤ i → sendsFrom sends draws extras (count - i) i d x s ≡ all s d x
+    pub all-sent : count ≤ i → sendsFrom sends draws extras (count - i) i d x h w ≡ all h w d x
     unfolding sendsFrom
-    all-sent h = let z : count - i ≡ 0 = omega arith in rw z
+    all-sent q = let z : count - i ≡ 0 = omega arith in rw z
 
   -- ---- where they stop
-  pub stop : (left place d x : ℕ) (s : Network) (k p : ℕ) → sendsFrom sends draws extras left place d x s ≡ stopped k p → Stop place left k p
+  pub stop : (left place d x : ℕ) (h : Head) (w : List ℕ) (k p : ℕ) → sendsFrom sends draws extras left place d x h w ≡ stopped k p → Stop place left k p
   unfolding sendsFrom
-  stop zero place d x s k p e = let z : _≡_ {A = ℕ} 0 1 = cc in absurd (omega arith)
-  stop (suc left) place d x s k p e =
-      go (callAnswer (callAt place d x) s) refl (λ q. stop left (suc place) _ _ _ k p (sym (goes-on left place d x s q) ∙ e))
+  stop zero place d x h w k p e = let z : _≡_ {A = ℕ} 0 1 = cc in absurd (omega arith)
+  stop (suc left) place d x h w k p e =
+      go (answerIn (callAt sends draws extras place d x) h w) refl (λ q. stop left (suc place) _ _ _ _ k p (sym (goes-on left place d x h w q) ∙ e))
     where
-      go : (a : Answer) → callAnswer (callAt place d x) s ≡ a
-          → (callAnswer (callAt place d x) s ≡ done → Stop (suc place) left k p) → Stop place (suc left) k p
+      go : (a : Answer) → answerIn (callAt sends draws extras place d x) h w ≡ a
+          → (answerIn (callAt sends draws extras place d x) h w ≡ done → Stop (suc place) left k p) → Stop place (suc left) k p
       go done q more = let r = more q in record { number = r .number; within = omega (arith, r .within) }
       go (refused j) q more =
-          let r : stopped j place ≡ stopped k p = sym (stops left place d x s j q) ∙ e in
+          let r : stopped j place ≡ stopped k p = sym (stops left place d x h w j q) ∙ e in
           let y : j ≡ k = cc in
           let z : place ≡ p = cc in
-          record { number = omega (arith, send-number (letterAt sends place) (drop d draws) (drop x extras) s j q); within = omega arith }
+          record { number = omega (arith, send-number (letterAt sends place) (drop d draws) (drop x extras) h w j q); within = omega arith }
 
   -- ---- what they leave
-  pub leaves : (left place d x : ℕ) (s : Network) → Whole s → (t : Network) (g y : ℕ) → sendsFrom sends draws extras left place d x s ≡ all t g y → Whole t
+  pub leaves : (left place d x : ℕ) (h : Head) (w : List ℕ) → Whole h w → (t : Head) (v : List ℕ) (g y : ℕ) → sendsFrom sends draws extras left place d x h w ≡ all t v g y → Whole t v
   unfolding sendsFrom
-  leaves zero place d x s w t g y e = let z : s ≡ t = cc in rw z at w
-  leaves (suc left) place d x s w t g y e =
-      go (callAnswer (callAt place d x) s) refl
-      (λ q. leaves left (suc place) _ _ _ (stays-whole (callAt place d x) s q) t g y (sym (goes-on left place d x s q) ∙ e))
+  leaves zero place d x h w o t v g y e = let z : h ≡ t = cc in let u : w ≡ v = cc in rw (z, u) at o
+  leaves (suc left) place d x h w o t v g y e =
+      go (answerIn (callAt sends draws extras place d x) h w) refl
+      (λ q. leaves left (suc place) _ _ _ _ (stays-whole (callAt sends draws extras place d x) h w q) t v g y (sym (goes-on left place d x h w q) ∙ e))
     where
-      go : (a : Answer) → callAnswer (callAt place d x) s ≡ a → (callAnswer (callAt place d x) s ≡ done → Whole t) → Whole t
+      go : (a : Answer) → answerIn (callAt sends draws extras place d x) h w ≡ a → (answerIn (callAt sends draws extras place d x) h w ≡ done → Whole t v) → Whole t v
       go done q more = more q
       go (refused j) q more =
-          let r : stopped j place ≡ all t g y = sym (stops left place d x s j q) ∙ e in
+          let r : stopped j place ≡ all t v g y = sym (stops left place d x h w j q) ∙ e in
           let z : _≡_ {A = ℕ} 0 1 = cc in
           absurd (omega arith)
 
@@ -124,5 +112,5 @@ module _ (sends draws extras : List ℕ) where
 pub ran-stopped : (t : Run) (w : List ℕ) → (t .refusal ≡ 0 → ⊥) → ranOf t w ≡ stopped (t .refusal) (t .place)
 ran-stopped t w n = rw (ne-eqb (t .refusal) 0 n)
 
-pub ran-all : (t : Run) (w : List ℕ) → t .refusal ≡ 0 → ranOf t w ≡ all (joined (t .head) w) (t .draws) (t .extras)
+pub ran-all : (t : Run) (w : List ℕ) → t .refusal ≡ 0 → ranOf t w ≡ all (t .head) w (t .draws) (t .extras)
 ran-all t w e = rw e

@@ -5,36 +5,36 @@ use mathlib.Core.Bool.{true, false}
 use mathlib.Core.List.{List, [], _∷_}
 use borrow.Author.Tests.{le-leb, lt-leb, eq-eqb, ne-eqb}
 use lib.ListN.{length}
-use Rattle.nights.specs.Record.{wordsOf}
-use Rattle.nights.specs.Net.{take, keep, isDue}
-use Rattle.nights.specs.Journal.{Answer, done, refused}
-use Rattle.network.specs.declared.Head.{Head}
-use Rattle.network.specs.declared.Network.{Network}
-use Rattle.network.specs.Forms.{plainOf, headOf, joined, isFormed}
-use Rattle.network.specs.Calls.{callAnswer, callNetwork, formAnswer, written}
-use Rattle.network.proofs.Calling.{form-ill, form-well}
-use Rattle.network_words.specs.Layout.{headFits, headWords, networkIn}
+use Rattle.nights.specs.Net.{collect}
+use Rattle.nights.specs.Tests.{Answer, done, refused, ifDone}
+use Rattle.network_form.specs.declared.Head.{Head}
+use Rattle.network_form.specs.Forms.{formedIn}
+use Rattle.network_form.specs.Calls.{answerIn, headAfter, recordsAfter, formAnswer}
+use Rattle.network_form.proofs.Calling.{form-ill, form-well}
+use Rattle.network_take.specs.Takes.{dueIn, takeGives}
+use Rattle.network_words.specs.Layout.{headFits, headIn, headWords}
+use Rattle.network_words.specs.Calls.{Rows}
 use Rattle.network_words.proofs.Heads.{no-head, a-head}
-use Rattle.network_batch.specs.Ticks.{messageWords, most, numberAt, Ran, all, stopped, sendsFrom, Tick, refusing, taking, afterSends, tested, ticked}
+use Rattle.network_batch.specs.Ticks.{messageWords, mostMessages, numberAt, Ran, all, stopped, sendsFrom, refusedAt, taking, afterSends, tested, ticked}
 
 module _ (h r sends draws extras : List ℕ) (now : ℕ) (out told : List ℕ) where
-  abbrev whole : Tick
+  abbrev whole : Rows
   whole = ticked h r sends draws extras now out told
 
-  abbrev refuse : (number place : ℕ) → Tick
-  refuse k p = refusing h r sends draws extras now out told k p
+  abbrev refuse : (number place : ℕ) → Rows
+  refuse k p = refusedAt h r sends draws extras now out told k p
 
   -- the number and the lent rows after it
   abbrev pub Ticked : ℕ → List ℕ → List ℕ → List ℕ → List ℕ → Type 0
   Ticked n a b o t =
       (n ≡ whole .number) × ((a ≡ whole .head) × ((b ≡ whole .records) × ((o ≡ whole .out) × (t ≡ whole .told))))
 
-  leaves : (t : Tick) → whole ≡ t → Ticked (t .number) (t .head) (t .records) (t .out) (t .told)
+  leaves : (t : Rows) → whole ≡ t → Ticked (t .number) (t .head) (t .records) (t .out) (t .told)
   leaves t e = (
-    ap (λ (x : Tick). x .number) (sym e),
+    ap (λ (x : Rows). x .number) (sym e),
     (
-      ap (λ (x : Tick). x .head) (sym e),
-      (ap (λ (x : Tick). x .records) (sym e), (ap (λ (x : Tick). x .out) (sym e), ap (λ (x : Tick). x .told) (sym e))),
+      ap (λ (x : Rows). x .head) (sym e),
+      (ap (λ (x : Rows). x .records) (sym e), (ap (λ (x : Rows). x .out) (sym e), ap (λ (x : Rows). x .told) (sym e))),
     ),
   )
 
@@ -43,84 +43,68 @@ module _ (h r sends draws extras : List ℕ) (now : ℕ) (out told : List ℕ) w
 
   pub unread : headFits h ≡ false → (n : ℕ) → n ≡ numberAt 23 0 → Ticked n h r out told
   unfolding tested
-  unread f = refuses 23 0 (ap (tested h r sends draws extras now out told) (no-head h (formAnswer (networkIn h r)) f))
+  unread f = refuses 23 0 (ap (tested h r sends draws extras now out told) (no-head h (formAnswer (headIn h) r) f))
 
   module _ (f : headFits h ≡ true) where
-    pub ill-formed : isFormed (networkIn h r) ≡ false → (n : ℕ) → n ≡ numberAt 23 0 → Ticked n h r out told
+    pub ill-formed : formedIn (headIn h) r ≡ false → (n : ℕ) → n ≡ numberAt 23 0 → Ticked n h r out told
     unfolding tested
     ill-formed w =
         refuses 23 0
-        (ap (tested h r sends draws extras now out told) (a-head h (formAnswer (networkIn h r)) f ∙ form-ill (networkIn h r) w))
+        (ap (tested h r sends draws extras now out told) (a-head h (formAnswer (headIn h) r) f ∙ form-ill (headIn h) r w))
 
-    module _ (w : isFormed (networkIn h r) ≡ true) where
+    module _ (w : formedIn (headIn h) r ≡ true) where
       opens : whole ≡ tested h r sends draws extras now out told done
-      opens = ap (tested h r sends draws extras now out told) (a-head h (formAnswer (networkIn h r)) f ∙ form-well (networkIn h r) w)
+      opens = ap (tested h r sends draws extras now out told) (a-head h (formAnswer (headIn h) r) f ∙ form-well (headIn h) r w)
 
-      pub too-many : most < length sends / messageWords → (n : ℕ) → n ≡ numberAt 24 most → Ticked n h r out told
+      pub too-many : mostMessages < length sends / messageWords → (n : ℕ) → n ≡ numberAt 24 mostMessages → Ticked n h r out told
       unfolding tested
-      too-many c = refuses 24 most (opens ∙ rw (lt-leb (length sends / messageWords) most c))
+      too-many c = refuses 24 mostMessages (opens ∙ rw (lt-leb (length sends / messageWords) mostMessages c))
 
-      module _ (c : length sends / messageWords ≤ most) where
+      module _ (c : length sends / messageWords ≤ mostMessages) where
         pub broken : (length sends ≡ messageWords * (length sends / messageWords) → ⊥) → (n : ℕ) → n ≡ numberAt 24 (length sends / messageWords) → Ticked n h r out told
         unfolding tested
         broken e =
             refuses 24 (length sends / messageWords)
             (opens
-            ∙ rw (le-leb (length sends / messageWords) most c, ne-eqb (length sends) (messageWords * (length sends / messageWords)) e))
+            ∙ rw (le-leb (length sends / messageWords) mostMessages c, ne-eqb (length sends) (messageWords * (length sends / messageWords)) e))
 
         module _ (e : length sends ≡ messageWords * (length sends / messageWords)) where
           abbrev ran : Ran
-          ran = sendsFrom sends draws extras (length sends / messageWords) 0 0 0 (networkIn h r)
+          ran = sendsFrom sends draws extras (length sends / messageWords) 0 0 0 (headIn h) r
 
           sends-first : whole ≡ afterSends h r sends draws extras now out told ran
           unfolding tested
           sends-first =
               opens
-              ∙ rw (le-leb (length sends / messageWords) most c, eq-eqb (length sends) (messageWords * (length sends / messageWords)) e)
+              ∙ rw (le-leb (length sends / messageWords) mostMessages c, eq-eqb (length sends) (messageWords * (length sends / messageWords)) e)
 
           pub send-refused : (k p : ℕ) → ran ≡ stopped k p → (n : ℕ) → n ≡ numberAt k p → Ticked n h r out told
           unfolding afterSends
           send-refused k p q = refuses k p (sends-first ∙ ap (afterSends h r sends draws extras now out told) q)
 
-          module _ (s : Network) (d x : ℕ) (q : ran ≡ all s d x) where
-            takes-then : whole ≡ taking h r sends draws extras now out told (callAnswer (take now (length out)) s) s d x
+          module _ (t : Head) (v : List ℕ) (d x : ℕ) (q : ran ≡ all t v d x) where
+            takes-then : whole ≡ taking h r sends draws extras now out told (answerIn (collect now (length out)) t v) t v d x
             unfolding afterSends
             takes-then = sends-first ∙ ap (afterSends h r sends draws extras now out told) q
 
-            pub take-refused : (k : ℕ) → callAnswer (take now (length out)) s ≡ refused k → (n : ℕ) → n ≡ numberAt k (length sends / messageWords)
-                → (o : List ℕ) → o ≡ written (callAnswer (take now (length out)) s) (wordsOf (keep (isDue now) (plainOf s .pending))) out
-                → Ticked n h r o told
-            unfolding taking written
+            pub take-refused : (k : ℕ) → answerIn (collect now (length out)) t v ≡ refused k → (n : ℕ) → n ≡ numberAt k (length sends / messageWords)
+                → (o : List ℕ) → o ≡ takeGives now out t v → Ticked n h r o told
+            unfolding taking ifDone
             take-refused k a n m o u =
-                let l = refuses k (length sends / messageWords) (takes-then ∙ ap (λ (z : Answer). taking h r sends draws extras now out told z s d x) a) n m in (
-                  l .0,
-                  (
-                    l .1 .0,
-                    (
-                      l .1 .1 .0,
-                      (u ∙ (ap (λ (z : Answer). written z (wordsOf (keep (isDue now) (plainOf s .pending))) out) a ∙ l .1 .1 .1 .0), l .1 .1 .1 .1),
-                    ),
-                  ),
-                )
+                let l = refuses k (length sends / messageWords) (takes-then ∙ ap (λ (z : Answer). taking h r sends draws extras now out told z t v d x) a) n m in
+                (l .0, (l .1 .0, (l .1 .1 .0, ((rw a at u) ∙ l .1 .1 .1 .0, l .1 .1 .1 .1))))
 
-            pub all-done : callAnswer (take now (length out)) s ≡ done
-                → (t : Head) (v : List ℕ) → joined t v ≡ callNetwork (take now (length out)) s
-                → (a o : List ℕ) → a ≡ headWords t
-                → o ≡ written (callAnswer (take now (length out)) s) (wordsOf (keep (isDue now) (plainOf s .pending))) out
-                → (k : ℕ) → k ≡ length (keep (isDue now) (plainOf s .pending))
-                → Ticked 0 a v o (d ∷ x ∷ k ∷ [])
-            unfolding taking written
-            all-done e t v j a o p u k m =
-                let l = leaves (taking h r sends draws extras now out told done s d x) (takes-then ∙ ap (λ (z : Answer). taking h r sends draws extras now out told z s d x) e) in (
+            pub all-done : answerIn (collect now (length out)) t v ≡ done
+                → (s : Head) → s ≡ headAfter (collect now (length out)) t v
+                → (a b o : List ℕ) → a ≡ headWords s → b ≡ recordsAfter (collect now (length out)) t v → o ≡ takeGives now out t v
+                → (k : ℕ) → k ≡ length (dueIn now t v)
+                → Ticked 0 a b o (d ∷ x ∷ k ∷ [])
+            unfolding taking ifDone
+            all-done e s j a b o p y u k m =
+                let l = leaves (taking h r sends draws extras now out told done t v d x) (takes-then ∙ ap (λ (z : Answer). taking h r sends draws extras now out told z t v d x) e) in (
                   l .0,
                   (
-                    p ∙ (ap (λ (n : Network). headWords (headOf n)) j ∙ l .1 .0),
-                    (
-                      ap (λ (n : Network). n .words) j ∙ l .1 .1 .0,
-                      (
-                        u ∙ (ap (λ (z : Answer). written z (wordsOf (keep (isDue now) (plainOf s .pending))) out) e ∙ l .1 .1 .1 .0),
-                        ap (λ (n : ℕ). d ∷ x ∷ n ∷ []) m ∙ l .1 .1 .1 .1,
-                      ),
-                    ),
+                    p ∙ (ap headWords j ∙ l .1 .0),
+                    (y ∙ l .1 .1 .0, ((rw e at u) ∙ l .1 .1 .1 .0, ap (λ (n : ℕ). d ∷ x ∷ n ∷ []) m ∙ l .1 .1 .1 .1)),
                   ),
                 )

@@ -14,37 +14,38 @@ use Rattle.chance.specs.declared.Draw.{Draw}
 use Rattle.chance.specs.declared.Draw.the-variants.{Yes, No, Short}
 use Rattle.nights.specs.Net.{Options, once, twice, Letter, send}
 use Rattle.nights.specs.Draws.{Decided, refusing, isFaulted, extrasFor, dueAt, isTick, isLate, alone, both, afterReplay, afterLoss, decided, fateOf}
-use Rattle.nights.specs.Journal.{refused, Test, verdict, refusal, sendTests, tests}
-use Rattle.network.specs.declared.Network.{Network}
-use Rattle.network_fates.specs.declared.Refusal.{Refusal}
-use Rattle.network_fates.specs.declared.Refusal.the-variants.{BadLoss, BadReplay, MinOverMean, IllFormed, BadKindOrSort, SentLimit, ShortDraws, ShortExtras, LateTick, Full, ShortOutput, BadJournal, NoJournalRoom, TooFarBack}
-use Rattle.network_fates.specs.Answers.{number}
-use Rattle.network.specs.Forms.{plainOf}
-use Rattle.network.specs.Calls.{formTest, callAnswer}
+use Rattle.nights.specs.Tests.{refused, Test, verdict, refusal, sendTests, tests}
+use Rattle.network_options.specs.declared.Refusal.{Refusal}
+use Rattle.network_options.specs.declared.Refusal.the-variants.{BadLoss, BadReplay, MinOverMean, IllFormed, BadKindOrSort, SentLimit, ShortDraws, ShortExtras, LateTick, Full, ShortOutput, BadJournal, NoJournalRoom, TooFarBack}
+use Rattle.network_options.specs.Answers.{refusalNumber}
+use Rattle.network_options.specs.Options.{plainOptions}
+use Rattle.network_form.specs.declared.Head.{Head}
+use Rattle.network_form.specs.Forms.{plainIn}
+use Rattle.network_form.specs.Calls.{formTest, answerIn}
 
 -- ---- draws
 
 -- the place of the next word, after a draw that found one
-abbrev after : Draw → ℕ
-after (Yes place) = place
-after (No place) = place
-after Short = 0
+abbrev next : Draw → ℕ
+next (Yes place) = place
+next (No place) = place
+next Short = 0
 
 module _ (p : Float) (draws : List ℕ) (place : ℕ) (h : place ≤ length draws) where
-  by-word : after (byWord p draws place) ≤ length draws
+  by-word : next (byWord p draws place) ≤ length draws
   unfolding byWord
   by-word = go (ltb place (length draws)) refl (ltb (getD draws place 0) (thresholdOf (toBits binary64 p)))
     where
-      go : (b : Bool) → ltb place (length draws) ≡ b → (d : Bool) → after (cond b (cond d (Yes (place + 1)) (No (place + 1))) Short) ≤ length draws
+      go : (b : Bool) → ltb place (length draws) ≡ b → (d : Bool) → next (cond b (cond d (Yes (place + 1)) (No (place + 1))) Short) ≤ length draws
       go true e true = omega (arith, ltb-true place (length draws) e)
       go true e false = omega (arith, ltb-true place (length draws) e)
       go false e d = omega arith
 
-  in-send : after (genBoolInSend p draws place) ≤ length draws
+  in-send : next (genBoolInSend p draws place) ≤ length draws
   unfolding genBool genBoolInSend
   in-send = go (isZero p) (isOne p)
     where
-      go : (z o : Bool) → after (cond z (No place) (cond o (Yes place) (byWord p draws place))) ≤ length draws
+      go : (z o : Bool) → next (cond z (No place) (cond o (Yes place) (byWord p draws place))) ≤ length draws
       go true o = h
       go false true = h
       go false false = by-word
@@ -77,13 +78,13 @@ module _ (o : Options) (now : ℕ) (draws extras : List ℕ) where
         go true e false = record { draws-within = omega arith; extras-within = omega arith; number-small = omega arith }
         go false e t = record { draws-within = omega arith; extras-within = omega arith; number-small = omega arith }
 
-  replay-modest : (d : Draw) → after d ≤ length draws → Modest draws extras (afterReplay o now extras d)
+  replay-modest : (d : Draw) → next d ≤ length draws → Modest draws extras (afterReplay o now extras d)
   unfolding afterReplay
   replay-modest (Yes place) h = two-copies place h
   replay-modest (No place) h = one-copy place h
   replay-modest Short h = record { draws-within = omega arith; extras-within = omega arith; number-small = omega arith }
 
-  loss-modest : (d : Draw) → after d ≤ length draws → Modest draws extras (afterLoss o now draws extras d)
+  loss-modest : (d : Draw) → next d ≤ length draws → Modest draws extras (afterLoss o now draws extras d)
   unfolding afterLoss
   loss-modest (Yes place) h = record { draws-within = h; extras-within = omega arith; number-small = omega arith }
   loss-modest (No place) h = replay-modest _ (in-send (ofBits binary64 (o .replay)) draws place h)
@@ -112,13 +113,13 @@ under (t ∷ ts) u k e = go (t .passes) (λ q. under ts (u .1) k q) e
     go true more q = more q
     go false more q = let z : t .number ≡ k = cc in omega (arith, u .0)
 
-pub send-number : (m : Letter) (draws extras : List ℕ) (s : Network) (k : ℕ) → callAnswer (send m draws extras) s ≡ refused k → k ≤ 33
-unfolding callAnswer tests
-send-number m draws extras s k e =
-    under (formTest s ∷ sendTests m (fateOf (plainOf s .options) (m .now) (m .kind) draws extras) (plainOf s) [])
-    (omega arith, (omega arith, (omega arith, (modest (plainOf s .options) (m .now) draws extras (m .kind) .number-small, (omega arith, tt))))) k e
+pub send-number : (m : Letter) (draws extras : List ℕ) (h : Head) (w : List ℕ) (k : ℕ) → answerIn (send m draws extras) h w ≡ refused k → k ≤ 33
+unfolding answerIn tests
+send-number m draws extras h w k e =
+    under (formTest h w ∷ sendTests m (fateOf (plainOptions (h .options)) (m .now) (m .kind) draws extras) (plainIn h w) [])
+    (omega arith, (omega arith, (omega arith, (modest (plainOptions (h .options)) (m .now) draws extras (m .kind) .number-small, (omega arith, tt))))) k e
 
-pub number-under : (r : Refusal) → number r ≤ 33
+pub number-under : (r : Refusal) → refusalNumber r ≤ 33
 number-under BadLoss = omega arith
 number-under BadReplay = omega arith
 number-under MinOverMean = omega arith
@@ -134,7 +135,7 @@ number-under BadJournal = omega arith
 number-under NoJournalRoom = omega arith
 number-under TooFarBack = omega arith
 
-pub number-over : (r : Refusal) → number r ≡ 0 → ⊥
+pub number-over : (r : Refusal) → refusalNumber r ≡ 0 → ⊥
 number-over BadLoss e = omega arith
 number-over BadReplay e = omega arith
 number-over MinOverMean e = omega arith

@@ -2,102 +2,101 @@
 -- call is (RULES, "The host's boundary"). The first that is refused answers with its number and place. Assumes nothing.
 use Prim.Native.Nat.{ℕ, zero, suc, _+_, _*_, _/_, _^_}
 use mathlib.Core.Bool.{cond}
-use mathlib.Core.List.{List, [], _∷_, _++_}
+use mathlib.Core.List.{List, [], _∷_}
 use lib.Dec.{leb, eqb}
 use lib.ListN.{length, drop, getD}
-use Rattle.nights.specs.Record.{wordsOf}
-use Rattle.nights.specs.Net.{Letter, send, take, keep, isDue}
+use Rattle.nights.specs.Record.{recordWords}
+use Rattle.nights.specs.Net.{Letter, Change, send, collect}
 use Rattle.nights.specs.Draws.{Decided, decided}
-use Rattle.nights.specs.Journal.{Answer, done, refused}
-use Rattle.network.specs.declared.Network.{Network}
-use Rattle.network.specs.Forms.{plainOf, headOf, joined, letterOf}
-use Rattle.network.specs.Calls.{callAnswer, callNetwork, formAnswer}
-use Rattle.network_words.specs.Layout.{headWords, networkIn}
+use Rattle.nights.specs.Tests.{Answer, done, refused}
+use Rattle.network_options.specs.Options.{plainOptions}
+use Rattle.network_form.specs.declared.Head.{Head}
+use Rattle.network_form.specs.Calls.{answerIn, headAfter, recordsAfter, formAnswer}
+use Rattle.network_send.specs.Sends.{letterOf}
+use Rattle.network_take.specs.Takes.{dueIn}
+use Rattle.network_words.specs.Layout.{headIn, headWords}
+use Rattle.network_words.specs.Calls.{Rows, ifHead, inFront}
 use Rattle.network_batch.specs.declared.Run.{Run}
-use Rattle.network_words.specs.Calls.{ifHead}
 
 -- the words of a message, and the most messages of a tick
 abbrev pub messageWords : ℕ
 messageWords = 6
 
-abbrev pub most : ℕ
-most = 65536
+abbrev pub mostMessages : ℕ
+mostMessages = 65536
 
 -- the message at a place of a list
 abbrev pub letterAt : List ℕ → ℕ → Letter
 letterAt w i =
-    letterOf (getD w (6 * i) 0) (getD w (6 * i + 1) 0) (getD w (6 * i + 2) 0) (getD w (6 * i + 3) 0) (getD w (6 * i + 4) 0) (getD w (6 * i + 5) 0)
+    letterOf (getD w (i * messageWords) 0) (getD w (i * messageWords + 1) 0) (getD w (i * messageWords + 2) 0)
+    (getD w (i * messageWords + 3) 0) (getD w (i * messageWords + 4) 0) (getD w (i * messageWords + 5) 0)
 
 -- a number and a place, in one
 abbrev pub numberAt : (number place : ℕ) → ℕ
 numberAt number place = number * 2 ^ 32 + place
 
--- what the calls leave: the network, the draws and the extras used; or the number and the place of the first that is refused
+-- what the calls leave: the head and its words, the draws and the extras used; or the number and the place of the first that is refused
 pub data Ran : Type 0 where
-  all : (s : Network) (draws extras : ℕ) → Ran
+  all : (h : Head) (w : List ℕ) (draws extras : ℕ) → Ran
   stopped : (number place : ℕ) → Ran
 
-unfoldable pub onward : Answer → (place : ℕ) → Ran → Ran
-onward done place more = more
-onward (refused k) place more = stopped k place
+unfoldable pub unlessRefused : Answer → (place : ℕ) → Ran → Ran
+unlessRefused done place more = more
+unlessRefused (refused k) place more = stopped k place
 
 -- the sends from a place on, `left` of them, after so many draws and extras
 module _ (sends draws extras : List ℕ) where
-  abbrev pub drawnBy : (place d x : ℕ) → Network → Decided
-  drawnBy place d x s =
-      decided (plainOf s .options) (letterAt sends place .now) (letterAt sends place .kind) (drop d draws) (drop x extras)
+  abbrev pub callAt : (place d x : ℕ) → Change
+  callAt place d x = send (letterAt sends place) (drop d draws) (drop x extras)
 
-  unfoldable pub sendsFrom : (left place d x : ℕ) → Network → Ran
-  sendsFrom zero place d x s = all s d x
-  sendsFrom (suc left) place d x s =
-      onward (callAnswer (send (letterAt sends place) (drop d draws) (drop x extras)) s) place
-      (sendsFrom left (suc place) (d + drawnBy place d x s .draws) (x + drawnBy place d x s .extras)
-      (callNetwork (send (letterAt sends place) (drop d draws) (drop x extras)) s))
+  abbrev pub drawnBy : (place d x : ℕ) → Head → Decided
+  drawnBy place d x h =
+      decided (plainOptions (h .options)) (letterAt sends place .now) (letterAt sends place .kind) (drop d draws) (drop x extras)
+
+  unfoldable pub sendsFrom : (left place d x : ℕ) → Head → List ℕ → Ran
+  sendsFrom zero place d x h w = all h w d x
+  sendsFrom (suc left) place d x h w =
+      unlessRefused (answerIn (callAt place d x) h w) place
+      (sendsFrom left (suc place) (d + drawnBy place d x h .draws) (x + drawnBy place d x h .extras) (headAfter (callAt place d x) h w)
+      (recordsAfter (callAt place d x) h w))
 
 -- the tick, whole: its number, 0 if all is done, and each lent row of words after it
-pub record Tick : Type 0 where
-  pub number : ℕ
-  pub head : List ℕ
-  pub records : List ℕ
-  pub out : List ℕ
-  pub told : List ℕ
-
 module _ (h r sends draws extras : List ℕ) (now : ℕ) (out told : List ℕ) where
-  abbrev pub refusing : (number place : ℕ) → Tick
-  refusing k place = record { number = numberAt k place; head = h; records = r; out = out; told = told }
+  abbrev pub refusedAt : (number place : ℕ) → Rows
+  refusedAt k place = record { number = numberAt k place; head = h; records = r; out = out; told = told }
 
   abbrev pub count : ℕ
   count = length sends / messageWords
 
   -- the take, after the sends
-  unfoldable pub taking : Answer → Network → (d x : ℕ) → Tick
-  taking done s d x =
+  unfoldable pub taking : Answer → Head → List ℕ → (d x : ℕ) → Rows
+  taking done t w d x =
       record {
         number = 0;
-        head = headWords (headOf (callNetwork (take now (length out)) s));
-        records = callNetwork (take now (length out)) s .words;
-        out = wordsOf (keep (isDue now) (plainOf s .pending)) ++ drop (length (wordsOf (keep (isDue now) (plainOf s .pending)))) out;
-        told = d ∷ x ∷ length (keep (isDue now) (plainOf s .pending)) ∷ [];
+        head = headWords (headAfter (collect now (length out)) t w);
+        records = recordsAfter (collect now (length out)) t w;
+        out = inFront (recordWords (dueIn now t w)) out;
+        told = d ∷ x ∷ length (dueIn now t w) ∷ [];
       }
-  taking (refused k) s d x = refusing k count
+  taking (refused k) t w d x = refusedAt k count
 
-  unfoldable pub afterSends : Ran → Tick
-  afterSends (stopped k place) = refusing k place
-  afterSends (all s d x) = taking (callAnswer (take now (length out)) s) s d x
+  unfoldable pub afterSends : Ran → Rows
+  afterSends (stopped k place) = refusedAt k place
+  afterSends (all t w d x) = taking (answerIn (collect now (length out)) t w) t w d x
 
   -- the network is tested first (23, at place 0); then that the list has at most 65,536 messages and is whole ones (24, at the place
   -- of the first that is over or broken)
-  unfoldable pub tested : Answer → Tick
-  tested (refused k) = refusing k 0
+  unfoldable pub tested : Answer → Rows
+  tested (refused k) = refusedAt k 0
   tested done =
-      cond (leb count most)
-      (cond (eqb (length sends) (messageWords * count)) (afterSends (sendsFrom sends draws extras count 0 0 0 (networkIn h r)))
-      (refusing 24 count))
-      (refusing 24 most)
+      cond (leb count mostMessages)
+      (cond (eqb (length sends) (messageWords * count)) (afterSends (sendsFrom sends draws extras count 0 0 0 (headIn h) r))
+      (refusedAt 24 count))
+      (refusedAt 24 mostMessages)
 
-  abbrev pub ticked : Tick
-  ticked = tested (ifHead h (formAnswer (networkIn h r)))
+  abbrev pub ticked : Rows
+  ticked = tested (ifHead h (formAnswer (headIn h) r))
 
 -- INSIDE: what the code's run of the sends says
 abbrev pub ranOf : Run → List ℕ → Ran
-ranOf t w = cond (eqb (t .refusal) 0) (all (joined (t .head) w) (t .draws) (t .extras)) (stopped (t .refusal) (t .place))
+ranOf t w = cond (eqb (t .refusal) 0) (all (t .head) w (t .draws) (t .extras)) (stopped (t .refusal) (t .place))

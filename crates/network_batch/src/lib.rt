@@ -1,21 +1,22 @@
 // A tick of the network over lent words: its sends, one after the other, and then a take, with the network tested once. If one of the
 // calls is refused the whole is, with that call's number and place, and no lent word is changed; else it is the calls one after the
 // other. The records are worked on in a copy, and written back when all is done.
-use network::Counted;
-use network::Head;
-use network::HeadSent;
-use network::SendAnswer;
+use network_form::Head;
+use network_options::number_of;
+use network_queue::WORDS;
+use network_send::Letter;
+use network_send::SendAnswer;
+use network_take::Counted;
+use network_words::HEAD_WORDS;
+use network_words::ILL_FORMED;
 ghost use mathlib.Core.Path.{_≡_};
 ghost use mathlib.Core.Bool.{true};
 ghost use Prim.Native.Nat.{_+_, _*_, _≤_};
 ghost use lib.ListN.{length};
-ghost use Rattle.nights.specs.Net.{send};
-ghost use Rattle.nights.specs.Draws.{decided};
-ghost use Rattle.network.specs.Answers.{sentOf, sending};
-ghost use Rattle.network.specs.Forms.{isFormed, joined};
-ghost use Rattle.network_fates.specs.Options.{plainOptions};
-ghost use Rattle.network.specs.Calls.{callAnswer, callNetwork};
-ghost use Rattle.network_batch.specs.Ticks.{letterAt, numberAt, sendsFrom, ticked, ranOf};
+ghost use Rattle.network_queue.specs.Packed.{arraySize};
+ghost use Rattle.network_form.specs.Forms.{formedIn};
+ghost use Rattle.network_send.specs.Sends.{plainLetter};
+ghost use Rattle.network_batch.specs.Ticks.{messageWords, mostMessages, letterAt, numberAt, sendsFrom, ticked, ranOf};
 
 // The words of a message: the tick it is sent at, the sender's sort and id, the receiver, kind and handle.
 pub const MESSAGE: usize = 6;
@@ -30,38 +31,26 @@ const PLACED: u64 = 0x1_0000_0000;
 const BROKEN_MESSAGE: u64 = 24;
 
 fn at(number: u64, place: usize) -> u64
-    requires { ⌜ (number ≤ 33) × (place ≤ 65536) ⌝ }
+    requires { ⌜ (number ≤ 33) × (place ≤ mostMessages) ⌝ }
     ensures { λ r. ⌜ r ≡ numberAt number place ⌝ }
 {
     number * PLACED + place as u64
 }
 
-// The message at a place of the list, sent with what is left of the draws and extras.
-fn send_at(
-    records: &mut [u64; 1024],
-    head: Head,
-    sends: &[u64],
-    place: usize,
-    draws: &[u64],
-    extras: &[u64],
-) -> HeadSent
-    requires { ⌜ (length (now records) ≡ 1024) × (isFormed (joined head (now records)) ≡ true) × (6 * place + 6 ≤ length (now sends)) ⌝ }
-    ensures network { λ t. ⌜ joined (t .head) (now (records .exit)) ≡ callNetwork (send (letterAt (now (sends .entry)) place) (now (draws .entry)) (now (extras .entry))) (joined head (now (records .entry))) ⌝ }
-    ensures answer { λ t. ⌜ sentOf (t .answer) ≡ sending (callAnswer (send (letterAt (now (sends .entry)) place) (now (draws .entry)) (now (extras .entry))) (joined head (now (records .entry)))) (decided (plainOptions (head .options)) (letterAt (now (sends .entry)) place .now) (letterAt (now (sends .entry)) place .kind) (now (draws .entry)) (now (extras .entry))) ⌝ }
+// The message at a place of the list.
+fn letter_at(sends: &[u64], place: usize) -> Letter
+    requires { ⌜ place * messageWords + messageWords ≤ length (now sends) ⌝ }
+    ensures { λ r. ⌜ plainLetter r ≡ letterAt (now (sends .entry)) place ⌝ }
 {
     let b = place * MESSAGE;
-    network::send_on(
-        records,
-        head,
-        sends[b],
-        sends[b + 1],
-        sends[b + 2],
-        sends[b + 3],
-        sends[b + 4],
-        sends[b + 5],
-        draws,
-        extras,
-    )
+    Letter {
+        now: sends[b],
+        sort: sends[b + 1],
+        origin: sends[b + 2],
+        to: sends[b + 3],
+        kind: sends[b + 4],
+        handle: sends[b + 5],
+    }
 }
 
 // What the sends leave: the head and the words used, or the number and the place of the first that is refused.
@@ -75,27 +64,29 @@ struct Run {
 
 // The sends, one after the other, on records that may be left half done where one is refused.
 fn send_all(
-    records: &mut [u64; 1024],
+    records: &mut [u64; WORDS],
     head: Head,
     sends: &[u64],
     count: usize,
     draws: &[u64],
     extras: &[u64],
 ) -> Run
-    requires { ⌜ (length (now records) ≡ 1024) × (isFormed (joined head (now records)) ≡ true) × (6 * count ≤ length (now sends)) ⌝ }
-    ensures { λ t. ⌜ ranOf t (now (records .exit)) ≡ sendsFrom (now (sends .entry)) (now (draws .entry)) (now (extras .entry)) count 0 0 0 (joined head (now (records .entry))) ⌝ }
+    requires { ⌜ (length (now records) ≡ arraySize) × (formedIn head (now records) ≡ true) × (messageWords * count ≤ length (now sends)) ⌝ }
+    ensures { λ t. ⌜ ranOf t (now (records .exit))
+        ≡ sendsFrom (now (sends .entry)) (now (draws .entry)) (now (extras .entry)) count 0 0 0 head (now (records .entry)) ⌝ }
 {
     let mut me = head;
     let mut drawn: usize = 0;
     let mut added: usize = 0;
     let mut i: usize = 0;
     while i < count {
-        let sent = send_at(records, me, sends, i, &draws[drawn..], &extras[added..]);
+        let letter = letter_at(sends, i);
+        let sent = network_send::send_on(records, me, letter, &draws[drawn..], &extras[added..]);
         let answer = sent.answer;
         match answer {
             SendAnswer::Refused(refusal) => {
                 return Run {
-                    refusal: network_words::number_of(refusal),
+                    refusal: number_of(refusal),
                     place: i,
                     head: me,
                     draws: drawn,
@@ -126,8 +117,8 @@ fn send_all(
 
 // The sends of a tick and then a take at `now`: the draws and the extras used and the records taken are told.
 pub fn tick(
-    head: &mut [u64; 12],
-    records: &mut [u64; 1024],
+    head: &mut [u64; HEAD_WORDS],
+    records: &mut [u64; WORDS],
     sends: &[u64],
     draws: &[u64],
     extras: &[u64],
@@ -135,19 +126,24 @@ pub fn tick(
     out: &mut [u64],
     told: &mut [u64; 3],
 ) -> u64
-    ensures answer { λ r. ⌜ r ≡ ticked (head .entry .now) (records .entry .now) (sends .entry .now) (draws .entry .now) (extras .entry .now) now (out .entry .now) (told .entry .now) .number ⌝ }
-    ensures head { λ _. ⌜ head .exit .now ≡ ticked (head .entry .now) (records .entry .now) (sends .entry .now) (draws .entry .now) (extras .entry .now) now (out .entry .now) (told .entry .now) .head ⌝ }
-    ensures records { λ _. ⌜ records .exit .now ≡ ticked (head .entry .now) (records .entry .now) (sends .entry .now) (draws .entry .now) (extras .entry .now) now (out .entry .now) (told .entry .now) .records ⌝ }
-    ensures out { λ _. ⌜ out .exit .now ≡ ticked (head .entry .now) (records .entry .now) (sends .entry .now) (draws .entry .now) (extras .entry .now) now (out .entry .now) (told .entry .now) .out ⌝ }
-    ensures told { λ _. ⌜ told .exit .now ≡ ticked (head .entry .now) (records .entry .now) (sends .entry .now) (draws .entry .now) (extras .entry .now) now (out .entry .now) (told .entry .now) .told ⌝ }
+    ensures answer { λ r. ⌜ r ≡ ticked (head .entry .now) (records .entry .now) (sends .entry .now)
+        (draws .entry .now) (extras .entry .now) now (out .entry .now) (told .entry .now) .number ⌝ }
+    ensures head { λ _. ⌜ head .exit .now ≡ ticked (head .entry .now) (records .entry .now) (sends .entry .now)
+        (draws .entry .now) (extras .entry .now) now (out .entry .now) (told .entry .now) .head ⌝ }
+    ensures records { λ _. ⌜ records .exit .now ≡ ticked (head .entry .now) (records .entry .now) (sends .entry .now)
+        (draws .entry .now) (extras .entry .now) now (out .entry .now) (told .entry .now) .records ⌝ }
+    ensures out { λ _. ⌜ out .exit .now ≡ ticked (head .entry .now) (records .entry .now) (sends .entry .now)
+        (draws .entry .now) (extras .entry .now) now (out .entry .now) (told .entry .now) .out ⌝ }
+    ensures told { λ _. ⌜ told .exit .now ≡ ticked (head .entry .now) (records .entry .now) (sends .entry .now)
+        (draws .entry .now) (extras .entry .now) now (out .entry .now) (told .entry .now) .told ⌝ }
 {
     let loaded = network_words::load(head);
     if !loaded.fits {
-        return at(network_words::ILL_FORMED, 0);
+        return at(ILL_FORMED, 0);
     }
-    network_words::whole(records);
-    if !network::formed(records, loaded.head) {
-        return at(network_words::ILL_FORMED, 0);
+    network_queue::whole(records);
+    if !network_form::formed(records, loaded.head) {
+        return at(ILL_FORMED, 0);
     }
     let count = sends.len() / MESSAGE;
     if MOST < count {
@@ -161,10 +157,10 @@ pub fn tick(
     if run.refusal != 0 {
         return at(run.refusal, run.place);
     }
-    let taken = network::take_on(&mut work, run.head, now, out);
+    let taken = network_take::take_on(&mut work, run.head, now, out);
     let answer = taken.answer;
     match answer {
-        Counted::Refused(refusal) => at(network_words::number_of(refusal), count),
+        Counted::Refused(refusal) => at(number_of(refusal), count),
         Counted::Records(k) => {
             network_words::store(taken.head, head);
             *records = work;

@@ -13,11 +13,11 @@ use Rattle.chance.specs.declared.Draw.{Draw}
 use Rattle.chance.specs.Draw.{genBoolInSend}
 use Rattle.nights.specs.Net.{Options, once, twice}
 use Rattle.nights.specs.Draws.{Decided, refusing, isFaulted, extrasFor, extraAt, dueAt, isTick, isLate, alone, both, afterReplay, afterLoss, decided}
-use Rattle.network_fates.specs.declared.NetworkOptions.{NetworkOptions}
-use Rattle.network_fates.specs.Options.{plainOptions}
+use Rattle.network_options.specs.declared.NetworkOptions.{NetworkOptions}
+use Rattle.network_options.specs.Options.{plainOptions}
 use Rattle.network_fates.specs.Answers.{at, past, tickFrom}
-use Rattle.network_fates.proofs.OptionForms.{Held}
-use Rattle.network_fates.proofs.Failing.{first, second}
+use Rattle.network_options.proofs.OptionForms.{Held}
+use Rattle.nights.proofs.Failing.{first, second}
 
 -- ---- ticks
 

@@ -1,3 +1,2 @@
--- The definitions that the crate's contracts cite: the code's options, refusals and decisions in their plain form.
-pub mod Options
+-- The definitions that the crate's contracts cite: the code's decisions in their plain form.
 pub mod Answers

@@ -1,83 +1,24 @@
-// The options of a network, and the fate of a message under them: what its lent draws and extras decide, and what that adds to the
-// counters. With them the refusals, which are one family for the network and the journal.
+// The fate of a message under a network's options: what its lent draws and extras decide, and what that adds to the counters.
+use network_options::NetworkOptions;
+use network_options::Refusal;
 ghost use mathlib.Core.Path.{_≡_};
 ghost use mathlib.Core.Bool.{true};
-ghost use mathlib.Core.List.{[]};
 ghost use Prim.Native.Nat.{_+_, _≤_};
 ghost use lib.Dec.{T};
 ghost use lib.ListN.{length};
 ghost use Rattle.nights.specs.Net.{goodOptions, dues, lostBy, replayedBy, delayedBy};
 ghost use Rattle.nights.specs.Draws.{extrasFor, extraAt, alone, both, afterReplay, decided, isFaulted};
-ghost use Rattle.nights.specs.Journal.{verdict, optionTests};
 ghost use Rattle.chance.specs.Probability.{goodProbability};
 ghost use Rattle.chance.specs.Draw.{genBoolInSend};
-ghost use Rattle.network_fates.specs.Options.{plainOptions, structOptions, perfectOptions};
-ghost use Rattle.network_fates.specs.Answers.{settledOf, decisionOf, tickOf, tickFrom};
+ghost use Rattle.network_options.specs.Options.{plainOptions};
+ghost use Rattle.network_options.specs.Answers.{settledOf};
+ghost use Rattle.network_fates.specs.Answers.{decisionOf, tickOf, tickFrom};
 
-// The kinds of a message, as the host names them.
-pub const REQUEST: u64 = 0;
-
-pub const PREPARE: u64 = 1;
-
-pub const PREPARE_OK: u64 = 2;
-
-pub const COMMIT: u64 = 3;
-
-pub const GET_STATE: u64 = 4;
-
-pub const NEW_STATE: u64 = 5;
-
-pub const START_VIEW_CHANGE: u64 = 6;
-
-pub const DO_VIEW_CHANGE: u64 = 7;
-
-pub const START_VIEW: u64 = 8;
-
-pub const RECOVERY: u64 = 9;
-
-pub const RECOVERY_RESPONSE: u64 = 10;
+// The kind of a message that a client sends.
+const REQUEST: u64 = 0;
 
 // The largest tick.
 const LAST_TICK: u64 = 0xffff_ffff_ffff_ffff;
-
-// Network fault injection options.
-pub struct NetworkOptions {
-    // Probability per message that it is lost.
-    pub packet_loss_probability: f64,
-    // Probability per message that it is delivered twice.
-    pub packet_replay_probability: f64,
-    // Minimum one-way delay in ticks: the transit time every message takes.
-    pub one_way_delay_min: u64,
-    // Mean one-way delay in ticks. Delay above the minimum is a fault, lent by the host, so messages can be reordered. Equal to the
-    // minimum, there is none.
-    pub one_way_delay_mean: u64,
-    // Whether faults also apply to requests.
-    pub fault_client_messages: bool,
-}
-
-// Why a call is refused; `number` in specs/Answers gives each its number. The last three are for the calls of `journal`.
-pub enum Refusal {
-    BadLoss,
-    BadReplay,
-    MinOverMean,
-    IllFormed,
-    BadKindOrSort,
-    SentLimit,
-    ShortDraws,
-    ShortExtras,
-    LateTick,
-    Full,
-    ShortOutput,
-    BadJournal,
-    NoJournalRoom,
-    TooFarBack,
-}
-
-// The answer of a call that has nothing more to tell.
-pub enum Settled {
-    Done,
-    Refused(Refusal),
-}
 
 // What a message's draws and extras decide, with the words used.
 pub enum Decision {
@@ -107,37 +48,6 @@ pub enum Decision {
 enum Tick {
     At(u64),
     Past,
-}
-
-impl NetworkOptions {
-    // A perfect network: no loss, no replay, no delay.
-    pub fn perfect() -> NetworkOptions
-        ensures { λ r. ⌜ r ≡ structOptions perfectOptions ⌝ }
-    {
-        NetworkOptions {
-            packet_loss_probability: 0.0,
-            packet_replay_probability: 0.0,
-            one_way_delay_min: 0,
-            one_way_delay_mean: 0,
-            fault_client_messages: false,
-        }
-    }
-
-    // Whether the options are good: 0 <= p <= 1 for both probabilities, and the minimum at most the mean.
-    pub fn validate(self) -> Settled
-        ensures { λ r. ⌜ settledOf r ≡ verdict (optionTests (plainOptions self) []) ⌝ }
-    {
-        if !chance::good(self.packet_loss_probability) {
-            return Settled::Refused(Refusal::BadLoss);
-        }
-        if !chance::good(self.packet_replay_probability) {
-            return Settled::Refused(Refusal::BadReplay);
-        }
-        if self.one_way_delay_min <= self.one_way_delay_mean {
-            return Settled::Done;
-        }
-        Settled::Refused(Refusal::MinOverMean)
-    }
 }
 
 // ---- The fate of a message

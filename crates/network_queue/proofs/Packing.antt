@@ -1,4 +1,4 @@
--- A list of at most 128 records and an array of words with zeros behind them tell one another; and what the code does to the words
+-- A list of at most `capacity` records and an array of words with zeros behind them tell one another; and what the code does to the words
 -- of a list, it does to the list. Assumes nothing.
 use Prim.Native.Nat.{ℕ, zero, suc, _+_, _-_, _*_, _≤_, _<_}
 use mathlib.Core.Path.{_≡_, refl, ap, ap₂, _∙_}
@@ -9,24 +9,23 @@ use borrow.Author.Tests.{eqb-true}
 use lib.Dec.{eqb}
 use lib.ListN.{length, take, drop, replicate, length-drop, length-append, length-replicate, take-append-drop}
 use lib.Seq.{drop-append-add, drop-at}
-use Rattle.nights.specs.Record.{Record, wordsOf, recs}
-use Rattle.nights.specs.Net.{insertBy, insertAll}
+use Rattle.nights.specs.Record.{Record, recordWords, recs, recordSize}
+use Rattle.nights.specs.Net.{insertBy, insertAll, capacity}
 use Rattle.nights.proofs.Order.{length-insert}
-use Rattle.nights.proofs.Undo.{length-wordsOf, recs-read}
-use Rattle.network_queue.specs.Form.{zeros}
-use Rattle.network_queue.specs.Packed.{packed}
+use Rattle.nights.proofs.Undo.{length-recordWords, recs-read}
+use Rattle.network_queue.specs.Packed.{zeros, packed, arraySize}
 use Rattle.network_queue.specs.Places.{insertedWords, insertedAll, front, back, dueCount, leftWords, goneWords}
-use Rattle.network_queue.proofs.Inserting.{length-recs, wordsOf-recs}
+use Rattle.network_queue.proofs.Inserting.{length-recs, recordWords-recs}
 use Rattle.network_queue.proofs.Taking.{parted}
 
 pub unpacked : (l : List Record) → recs (packed l) 0 (length l) ≡ l
 unfolding packed
-unpacked l = recs-read l (packed l) [] (replicate (1024 - 8 * length l) 0) 0 refl refl
+unpacked l = recs-read l (packed l) [] (replicate (arraySize - recordSize * length l) 0) 0 refl refl
 
-pub length-packed : (l : List Record) → length l ≤ 128 → length (packed l) ≡ 1024
+pub length-packed : (l : List Record) → length l ≤ capacity → length (packed l) ≡ arraySize
 unfolding packed
 length-packed l h =
-    omega (arith, length-append (wordsOf l) (replicate {A = ℕ} (1024 - 8 * length l) 0), length-wordsOf l, length-replicate {A = ℕ} (1024 - 8 * length l) 0)
+    omega (arith, length-append (recordWords l) (replicate {A = ℕ} (arraySize - recordSize * length l) 0), length-recordWords l, length-replicate {A = ℕ} (arraySize - recordSize * length l) 0)
 
 zeros-step : (b : Bool) (x : ℕ) (xs : List ℕ) → eqb x 0 ≡ b → cond b (zeros xs) false ≡ true → (x ≡ 0) × (zeros xs ≡ true)
 zeros-step true x xs e h = (eqb-true x 0 e, h)
@@ -40,13 +39,13 @@ zeros-are (x ∷ xs) h =
     ap₂ (λ (y : ℕ) (l : List ℕ). y ∷ l) (p .0) (zeros-are xs (p .1))
 
 -- words with zeros behind n records are the words of those records, packed
-pub repacked : (w : List ℕ) (n : ℕ) → length w ≡ 1024 → n ≤ 128 → zeros (drop (8 * n) w) ≡ true → packed (recs w 0 n) ≡ w
+pub repacked : (w : List ℕ) (n : ℕ) → length w ≡ arraySize → n ≤ capacity → zeros (drop (recordSize * n) w) ≡ true → packed (recs w 0 n) ≡ w
 unfolding packed
 repacked w n l h z =
-    let m : n * 8 ≡ 8 * n = omega arith in
-    let a : wordsOf (recs w 0 n) ≡ take (8 * n) w = rw m at (wordsOf-recs w 0 n (omega arith)) in
-    let b : 1024 - 8 * length (recs w 0 n) ≡ length (drop (8 * n) w) = omega (arith, length-recs w 0 n, length-drop (8 * n) w) in
-    rw (a, b, ← (zeros-are (drop (8 * n) w) z)) (take-append-drop (8 * n) w)
+    let m : n * recordSize ≡ recordSize * n = omega arith in
+    let a : recordWords (recs w 0 n) ≡ take (recordSize * n) w = rw m at (recordWords-recs w 0 n (omega arith)) in
+    let b : arraySize - recordSize * length (recs w 0 n) ≡ length (drop (recordSize * n) w) = omega (arith, length-recs w 0 n, length-drop (recordSize * n) w) in
+    rw (a, b, ← (zeros-are (drop (recordSize * n) w) z)) (take-append-drop (recordSize * n) w)
 
 zeros-of : (n : ℕ) → zeros (replicate n 0) ≡ true
 unfolding zeros
@@ -54,10 +53,10 @@ zeros-of zero = refl
 zeros-of (suc n) = zeros-of n
 
 -- behind the records of a packed list are zeros
-pub packed-zeros : (l : List Record) → zeros (drop (8 * length l) (packed l)) ≡ true
+pub packed-zeros : (l : List Record) → zeros (drop (recordSize * length l) (packed l)) ≡ true
 unfolding packed
 packed-zeros l =
-    rw (drop-at (wordsOf l) (replicate (1024 - 8 * length l) 0) (8 * length l) (length-wordsOf l)) (zeros-of (1024 - 8 * length l))
+    rw (drop-at (recordWords l) (replicate (arraySize - recordSize * length l) 0) (recordSize * length l) (length-recordWords l)) (zeros-of (arraySize - recordSize * length l))
 
 drop-replicate : (k n : ℕ) → drop k (replicate {A = ℕ} n 0) ≡ replicate (n - k) 0
 drop-replicate zero n = let z : n - zero ≡ n = omega arith in rw z
@@ -66,26 +65,26 @@ drop-replicate (suc k) (suc n) = let z : suc n - suc k ≡ n - k = omega arith i
 
 -- ---- putting in
 
-pub length-inserted : (w : List ℕ) (n : ℕ) (r : Record) → n * 8 + 8 ≤ length w → length (insertedWords w n r) ≡ length w
+pub length-inserted : (w : List ℕ) (n : ℕ) (r : Record) → n * recordSize + recordSize ≤ length w → length (insertedWords w n r) ≡ length w
 unfolding insertedWords
 length-inserted w n r h =
     omega (
       arith,
-      length-append (wordsOf (insertBy r (recs w 0 n))) (drop (n * 8 + 8) w),
-      length-wordsOf (insertBy r (recs w 0 n)),
+      length-append (recordWords (insertBy r (recs w 0 n))) (drop (n * recordSize + recordSize) w),
+      length-recordWords (insertBy r (recs w 0 n)),
       length-insert r (recs w 0 n),
       length-recs w 0 n,
-      length-drop (n * 8 + 8) w,
+      length-drop (n * recordSize + recordSize) w,
     )
 
-pub packed-insert : (l : List Record) (r : Record) → length l < 128 → insertedWords (packed l) (length l) r ≡ packed (insertBy r l)
+pub packed-insert : (l : List Record) (r : Record) → length l < capacity → insertedWords (packed l) (length l) r ≡ packed (insertBy r l)
 unfolding insertedWords packed
 packed-insert l r h =
-    let a : length l * 8 + 8 ≡ length (wordsOf l) + 8 = omega (arith, length-wordsOf l) in
-    let b : 1024 - 8 * length l - 8 ≡ 1024 - 8 * length (insertBy r l) = omega (arith, length-insert r l) in
-    rw (unpacked l, a, drop-append-add (wordsOf l) (replicate {A = ℕ} (1024 - 8 * length l) 0) 8, drop-replicate 8 (1024 - 8 * length l), b)
+    let a : length l * recordSize + recordSize ≡ length (recordWords l) + recordSize = omega (arith, length-recordWords l) in
+    let b : arraySize - recordSize * length l - recordSize ≡ arraySize - recordSize * length (insertBy r l) = omega (arith, length-insert r l) in
+    rw (unpacked l, a, drop-append-add (recordWords l) (replicate {A = ℕ} (arraySize - recordSize * length l) 0) recordSize, drop-replicate recordSize (arraySize - recordSize * length l), b)
 
-pub packed-insertAll : (rs l : List Record) → length l + length rs ≤ 128 → insertedAll (packed l) (length l) rs ≡ packed (insertAll rs l)
+pub packed-insertAll : (rs l : List Record) → length l + length rs ≤ capacity → insertedAll (packed l) (length l) rs ≡ packed (insertAll rs l)
 unfolding insertedAll insertAll
 packed-insertAll [] l h = refl
 packed-insertAll (r ∷ rs) l h =
@@ -94,22 +93,22 @@ packed-insertAll (r ∷ rs) l h =
 
 -- ---- taking out
 
-pub packed-left : (l : List Record) (at : ℕ) → length l ≤ 128 → leftWords (packed l) (length l) at ≡ packed (back at l)
+pub packed-left : (l : List Record) (at : ℕ) → length l ≤ capacity → leftWords (packed l) (length l) at ≡ packed (back at l)
 unfolding leftWords packed
 packed-left l at h =
     let p = parted at l in
-    let a : drop (length l * 8) (wordsOf l ++ replicate {A = ℕ} (1024 - 8 * length l) 0) ≡ replicate (1024 - 8 * length l) 0 =
-    drop-at (wordsOf l) (replicate {A = ℕ} (1024 - 8 * length l) 0) (length l * 8) (omega (arith, length-wordsOf l)) in
-    let b : dueCount at l * 8 + (1024 - 8 * length l) ≡ 1024 - 8 * length (back at l) = omega arith in
+    let a : drop (length l * recordSize) (recordWords l ++ replicate {A = ℕ} (arraySize - recordSize * length l) 0) ≡ replicate (arraySize - recordSize * length l) 0 =
+    drop-at (recordWords l) (replicate {A = ℕ} (arraySize - recordSize * length l) 0) (length l * recordSize) (omega (arith, length-recordWords l)) in
+    let b : dueCount at l * recordSize + (arraySize - recordSize * length l) ≡ arraySize - recordSize * length (back at l) = omega arith in
     rw (unpacked l, a)
-    (ap (λ (z : List ℕ). wordsOf (back at l) ++ z)
-    (replicate-join (dueCount at l * 8) (1024 - 8 * length l) ∙ ap (λ (k : ℕ). replicate {A = ℕ} k 0) b))
+    (ap (λ (z : List ℕ). recordWords (back at l) ++ z)
+    (replicate-join (dueCount at l * recordSize) (arraySize - recordSize * length l) ∙ ap (λ (k : ℕ). replicate {A = ℕ} k 0) b))
   where
     replicate-join : (a b : ℕ) → replicate {A = ℕ} a 0 ++ replicate b 0 ≡ replicate (a + b) 0
     replicate-join zero b = let z : zero + b ≡ b = omega arith in rw z
     replicate-join (suc a) b = let z : suc a + b ≡ suc (a + b) = omega arith in rw z (ap (λ (l : List ℕ). 0 ∷ l) (replicate-join a b))
 
 pub packed-gone : (l : List Record) (at : ℕ) (out : List ℕ)
-    → goneWords (packed l) (length l) at out ≡ wordsOf (front at l) ++ drop (length (wordsOf (front at l))) out
+    → goneWords (packed l) (length l) at out ≡ recordWords (front at l) ++ drop (length (recordWords (front at l))) out
 unfolding goneWords
-packed-gone l at out = let a : dueCount at l * 8 ≡ length (wordsOf (front at l)) = omega (arith, length-wordsOf (front at l)) in rw (unpacked l, a)
+packed-gone l at out = let a : dueCount at l * recordSize ≡ length (recordWords (front at l)) = omega (arith, length-recordWords (front at l)) in rw (unpacked l, a)

@@ -9,9 +9,9 @@ use borrow.Author.Tests.{le-leb, lt-leb}
 use lib.Dec.{leb}
 use lib.ListN.{length, take, drop, getD, set, replicate, length-take, length-drop, length-append, length-replicate, getD-replicate, take-append-drop}
 use lib.Seq.{drop-cons, take-suc, set-at, length-take-le, getD-append-add, take-take, take-all, take-at, drop-append-add, drop-drop}
-use Rattle.nights.specs.Record.{Record, wordsOf, recs}
+use Rattle.nights.specs.Record.{Record, recordWords, recs, recordSize}
 use Rattle.network_queue.specs.Places.{front, back, dueCount, leftWords, goneWords}
-use Rattle.network_queue.proofs.Inserting.{length-recs, wordsOf-recs, wordsOf-take, wordsOf-drop, peel}
+use Rattle.network_queue.proofs.Inserting.{length-recs, recordWords-recs, recordWords-take, recordWords-drop, peel}
 
 -- a loop that writes the list t over l from the front
 abbrev pub filled : List ℕ → List ℕ → ℕ → List ℕ
@@ -82,14 +82,14 @@ due-in at w n = omega (arith, due-le at (recs w 0 n), length-recs w 0 n)
 
 -- the walk of `due_front`
 abbrev pub Walked : List ℕ → ℕ → ℕ → ℕ → Type 0
-Walked w n at i = dueCount at (recs w 0 n) ≡ i + dueCount at (recs w (i * 8) (n - i))
+Walked w n at i = dueCount at (recs w 0 n) ≡ i + dueCount at (recs w (i * recordSize) (n - i))
 
 module _ (w : List ℕ) (n at i : ℕ) where
-  pub walk-on : i < n → getD w (i * 8) 0 ≤ at → Walked w n at i → Walked w n at (i + 1)
+  pub walk-on : i < n → getD w (i * recordSize) 0 ≤ at → Walked w n at i → Walked w n at (i + 1)
   unfolding front
   walk-on h d inv = let j = rw (peel w n 0 0 i h, le-leb _ _ d) at inv in omega arith
 
-  pub walk-stops : i < n → at < getD w (i * 8) 0 → Walked w n at i → i ≡ dueCount at (recs w 0 n)
+  pub walk-stops : i < n → at < getD w (i * recordSize) 0 → Walked w n at i → i ≡ dueCount at (recs w 0 n)
   unfolding front
   walk-stops h d inv = let j = rw (peel w n 0 0 i h, lt-leb _ _ d) at inv in omega arith
 
@@ -98,9 +98,9 @@ module _ (w : List ℕ) (n at i : ℕ) where
   walk-ends h inv = let z : n - i ≡ 0 = omega arith in let j = rw z at inv in omega arith
 
 -- `take_from`
-module _ (w : List ℕ) (n at k : ℕ) (fits : n * 8 ≤ length w) (e : k ≡ dueCount at (recs w 0 n)) where
-  words-is : wordsOf (recs w 0 n) ≡ take (n * 8) w
-  words-is = wordsOf-recs w 0 n (omega arith)
+module _ (w : List ℕ) (n at k : ℕ) (fits : n * recordSize ≤ length w) (e : k ≡ dueCount at (recs w 0 n)) where
+  words-is : recordWords (recs w 0 n) ≡ take (n * recordSize) w
+  words-is = recordWords-recs w 0 n (omega arith)
 
   within : k ≤ length (recs w 0 n)
   within = omega (arith, due-le at (recs w 0 n))
@@ -108,25 +108,25 @@ module _ (w : List ℕ) (n at k : ℕ) (fits : n * 8 ≤ length w) (e : k ≡ du
   k≤n : k ≤ n
   k≤n = omega (arith, within, length-recs w 0 n)
 
-  pub gone : (o o₀ : List ℕ) → o ≡ take (k * 8) w ++ drop (k * 8) o₀ → o ≡ goneWords w n at o₀
+  pub gone : (o o₀ : List ℕ) → o ≡ take (k * recordSize) w ++ drop (k * recordSize) o₀ → o ≡ goneWords w n at o₀
   unfolding goneWords
   gone o o₀ f =
-      rw (f, front-is at (recs w 0 n), ← e, wordsOf-take (recs w 0 n) k within, words-is, take-take (k * 8) (n * 8) w (omega (arith, k≤n)), length-take-le k (recs w 0 n) within)
+      rw (f, front-is at (recs w 0 n), ← e, recordWords-take (recs w 0 n) k within, words-is, take-take (k * recordSize) (n * recordSize) w (omega (arith, k≤n)), length-take-le k (recs w 0 n) within)
 
-  pub left : (a z : List ℕ) → a ≡ drop (k * 8) (take (n * 8) w) ++ drop (n * 8 - k * 8) w
-      → z ≡ take ((n - k) * 8) a ++ (replicate (n * 8 - (n - k) * 8) 0 ++ drop (n * 8) a) → z ≡ leftWords w n at
+  pub left : (a z : List ℕ) → a ≡ drop (k * recordSize) (take (n * recordSize) w) ++ drop (n * recordSize - k * recordSize) w
+      → z ≡ take ((n - k) * recordSize) a ++ (replicate (n * recordSize - (n - k) * recordSize) 0 ++ drop (n * recordSize) a) → z ≡ leftWords w n at
   unfolding leftWords
   left a z f g =
-      let p : List ℕ = drop (k * 8) (take (n * 8) w) in
+      let p : List ℕ = drop (k * recordSize) (take (n * recordSize) w) in
       let h = k≤n in
-      let c : length p ≡ (n - k) * 8 = omega (arith, length-part w (k * 8) (n * 8) (omega arith) fits) in
-      let t : take ((n - k) * 8) a ≡ p = rw f (take-at p _ _ c) in
-      let y : n * 8 - (n - k) * 8 ≡ k * 8 = omega arith in
-      let u : n * 8 ≡ length p + k * 8 = omega arith in
-      let v : n * 8 - k * 8 + k * 8 ≡ n * 8 = omega arith in
-      let d : drop (n * 8) a ≡ drop (n * 8) w =
-      ap (λ (x : List ℕ). drop (n * 8) x) f
-      ∙ (ap (λ (j : ℕ). drop j (p ++ drop (n * 8 - k * 8) w)) u
-      ∙ (drop-append-add p (drop (n * 8 - k * 8) w) (k * 8)
-      ∙ (drop-drop (k * 8) (n * 8 - k * 8) w ∙ ap (λ (j : ℕ). drop j w) v))) in
-      rw (g, t, y, d, back-is at (recs w 0 n), ← e, wordsOf-drop (recs w 0 n) k within, words-is)
+      let c : length p ≡ (n - k) * recordSize = omega (arith, length-part w (k * recordSize) (n * recordSize) (omega arith) fits) in
+      let t : take ((n - k) * recordSize) a ≡ p = rw f (take-at p _ _ c) in
+      let y : n * recordSize - (n - k) * recordSize ≡ k * recordSize = omega arith in
+      let u : n * recordSize ≡ length p + k * recordSize = omega arith in
+      let v : n * recordSize - k * recordSize + k * recordSize ≡ n * recordSize = omega arith in
+      let d : drop (n * recordSize) a ≡ drop (n * recordSize) w =
+      ap (λ (x : List ℕ). drop (n * recordSize) x) f
+      ∙ (ap (λ (j : ℕ). drop j (p ++ drop (n * recordSize - k * recordSize) w)) u
+      ∙ (drop-append-add p (drop (n * recordSize - k * recordSize) w) (k * recordSize)
+      ∙ (drop-drop (k * recordSize) (n * recordSize - k * recordSize) w ∙ ap (λ (j : ℕ). drop j w) v))) in
+      rw (g, t, y, d, back-is at (recs w 0 n), ← e, recordWords-drop (recs w 0 n) k within, words-is)

@@ -1,5 +1,4 @@
 -- The definitions that the crate's contracts cite.
 pub mod Plain
 pub mod Places
-pub mod Form
 pub mod Packed

@@ -1,14 +1,12 @@
--- A head's words: which of the three tests fails, what reading them gives, and what its seven counters are. Assumes nothing.
+-- A head's words: which of the three tests fails, and what reading them gives. Assumes nothing.
 use mathlib.Core.Path.{_≡_, refl, sym, ap, _∙_}
 use mathlib.Core.Bool.{Bool, true, false}
-use mathlib.Core.List.{List, [], _∷_}
+use mathlib.Core.List.{List}
 use Prim.Native.Nat.{ℕ, _≤_, _<_}
-use native.Mathlib.Omega.{arith}
 use borrow.Author.Tests.{le-leb, lt-leb}
-use lib.ListN.{length, drop, getD}
-use lib.Seq.{drop-cons, drop-length}
+use lib.ListN.{getD}
 use Rattle.chance.specs.Probability.{goodWord}
-use Rattle.nights.specs.Journal.{Answer, refused}
+use Rattle.nights.specs.Tests.{Answer, refused}
 use Rattle.network_words.specs.declared.Loaded.{Loaded}
 use Rattle.network_words.specs.Layout.{headFits, headIn, loaded, unloaded}
 use Rattle.network_words.specs.Calls.{ifHead}
@@ -65,23 +63,3 @@ module _ (w : List ℕ) where
   pub a-head : (a : Answer) → headFits w ≡ true → ifHead w a ≡ a
   unfolding ifHead
   a-head a e = rw e
-
-  -- ---- the seven words behind the options
-
-  pub seven : length w ≡ 12
-      → getD w 5 0 ∷ getD w 6 0 ∷ getD w 7 0 ∷ getD w 8 0 ∷ getD w 9 0 ∷ getD w 10 0 ∷ getD w 11 0 ∷ [] ≡ drop 5 w
-  seven long =
-      sym
-      (drop-cons w 5 0 (omega arith)
-      ∙ rw (
-        drop-cons w 6 0 (omega arith),
-        drop-cons w 7 0 (omega arith),
-        drop-cons w 8 0 (omega arith),
-        drop-cons w 9 0 (omega arith),
-        drop-cons w 10 0 (omega arith),
-        drop-cons w 11 0 (omega arith),
-        drop-12,
-      ))
-    where
-      drop-12 : drop 12 w ≡ []
-      drop-12 = rw long at (drop-length w)

@@ -1,45 +1,50 @@
--- What an answer says of the lent words: a refusal leaves them, and a call that is done writes them. And the answer itself, out of what
+-- What an answer says of the lent rows: a refusal leaves them, and a call that is done writes them. And the answer itself, out of what
 -- a send or a take inside tells. Assumes nothing.
 use mathlib.Core.Path.{_≡_, refl, sym, ap, _∙_}
-use mathlib.Core.List.{List, [], _∷_, _++_}
+use mathlib.Core.List.{List, [], _∷_}
 use mathlib.Core.Bool.{Bool, true, false}
 use Prim.Native.Nat.{ℕ}
-use lib.ListN.{length, drop}
 use Rattle.basis.specs.Basis.{bit}
 use Rattle.nights.specs.Draws.{Decided}
-use Rattle.nights.specs.Journal.{Answer, done, refused}
-use Rattle.network_fates.specs.declared.Refusal.{Refusal}
-use Rattle.network.specs.declared.SendAnswer.{SendAnswer}
-use Rattle.network.specs.declared.SendAnswer.the-variants.{Accepted, Refused as Unsent}
-use Rattle.network.specs.declared.Counted.{Counted}
-use Rattle.network.specs.declared.Counted.the-variants.{Records, Refused as Uncounted}
-use Rattle.network_fates.specs.Answers.{number}
-use Rattle.network.specs.Answers.{Sending, sentOf, sending, Count, countedOf, counting}
-use Rattle.network.specs.Calls.{written}
-use Rattle.network.proofs.Calling.{answer-of}
+use Rattle.nights.specs.Tests.{Answer, done, refused}
+use Rattle.network_options.specs.declared.Refusal.{Refusal}
+use Rattle.network_options.specs.Answers.{refusalNumber}
+use Rattle.network_send.specs.declared.SendAnswer.{SendAnswer}
+use Rattle.network_send.specs.declared.SendAnswer.the-variants.{Accepted, Refused as Unsent}
+use Rattle.network_send.specs.Sends.{Sending, sentOf, sending}
+use Rattle.network_send.proofs.Testing.{answer-of}
+use Rattle.network_take.specs.declared.Counted.{Counted}
+use Rattle.network_take.specs.declared.Counted.the-variants.{Records, Refused as Uncounted}
+use Rattle.network_take.specs.Takes.{Count, countedOf, counting}
 use Rattle.network_words.specs.Layout.{headFits}
-use Rattle.network_words.specs.Calls.{numberOf, onDone, ifHead, sendTold}
+use Rattle.network_words.specs.Calls.{numberOf, Rows, byAnswer, ifHead, sendTold}
 use Rattle.network_words.proofs.Heads.{no-head, a-head}
 
--- ---- the words by the answer
+-- ---- the rows by the answer
 
 pub record Kept (a : Answer) (k : ℕ) : Type 0 where
-  pub number : k ≡ numberOf a
-  pub words : (after before : List ℕ) → before ≡ onDone a after before
-  pub out : (after before : List ℕ) → before ≡ written a after before
+  pub number : (wrote came : Rows) → k ≡ byAnswer a wrote came .number
+  pub head : (wrote came : Rows) → came .head ≡ byAnswer a wrote came .head
+  pub records : (wrote came : Rows) → came .records ≡ byAnswer a wrote came .records
+  pub out : (wrote came : Rows) → came .out ≡ byAnswer a wrote came .out
+  pub told : (wrote came : Rows) → came .told ≡ byAnswer a wrote came .told
 
 pub record Done (a : Answer) : Type 0 where
-  pub number : 0 ≡ numberOf a
-  pub words : (after before : List ℕ) → after ≡ onDone a after before
-  pub out : (after before : List ℕ) → after ++ drop (length after) before ≡ written a after before
+  pub number : (wrote came : Rows) → wrote .number ≡ byAnswer a wrote came .number
+  pub head : (wrote came : Rows) → wrote .head ≡ byAnswer a wrote came .head
+  pub records : (wrote came : Rows) → wrote .records ≡ byAnswer a wrote came .records
+  pub out : (wrote came : Rows) → wrote .out ≡ byAnswer a wrote came .out
+  pub told : (wrote came : Rows) → wrote .told ≡ byAnswer a wrote came .told
 
 pub kept : (a : Answer) (k : ℕ) → a ≡ refused k → Kept a k
-unfolding onDone written
-kept a k e = record { number = rw e; words = λ x y. rw e; out = λ x y. rw e }
+unfolding byAnswer
+kept a k e =
+    record { number = λ w c. rw e; head = λ w c. rw e; records = λ w c. rw e; out = λ w c. rw e; told = λ w c. rw e }
 
 pub finished : (a : Answer) → a ≡ done → Done a
-unfolding onDone written
-finished a e = record { number = rw e; words = λ x y. rw e; out = λ x y. rw e }
+unfolding byAnswer
+finished a e =
+    record { number = λ w c. rw e; head = λ w c. rw e; records = λ w c. rw e; out = λ w c. rw e; told = λ w c. rw e }
 
 -- a number that is not 0 is a refusal's
 pub number-refused : (a : Answer) (n : ℕ) → n ≡ numberOf a → (n ≡ 0 → ⊥) → a ≡ refused n
@@ -64,7 +69,7 @@ module _ (h : List ℕ) (a : Answer) where
 -- ---- the answer by what a send tells
 
 module _ (t : SendAnswer) (a : Answer) (d : Decided) (e : sentOf t ≡ sending a d) where
-  pub sent-refused : (r : Refusal) → t ≡ Unsent r → a ≡ refused (number r)
+  pub sent-refused : (r : Refusal) → t ≡ Unsent r → a ≡ refused (refusalNumber r)
   sent-refused r q = sym (answer-of a d) ∙ ap (λ (z : Sending). z .answer) (sym e ∙ ap sentOf q)
 
   module _ (l r : Bool) (n x : ℕ) (q : t ≡ Accepted l r n x) where
@@ -77,7 +82,7 @@ module _ (t : SendAnswer) (a : Answer) (d : Decided) (e : sentOf t ≡ sending a
         ap (λ (z : Sending). z .lost ∷ z .replayed ∷ z .draws ∷ z .extras ∷ [])
         (sym (ap sentOf q) ∙ (e ∙ ap (λ (b : Answer). sending b d) sent-done))
 
--- ---- and by what a take tells
+-- ---- and by what a take, a count or a list tells
 
 counting-of : (a : Answer) (n : ℕ) → counting a n .answer ≡ a
 unfolding counting
@@ -85,7 +90,7 @@ counting-of done n = refl
 counting-of (refused k) n = refl
 
 module _ (t : Counted) (a : Answer) (n : ℕ) (e : countedOf t ≡ counting a n) where
-  pub taken-refused : (r : Refusal) → t ≡ Uncounted r → a ≡ refused (number r)
+  pub taken-refused : (r : Refusal) → t ≡ Uncounted r → a ≡ refused (refusalNumber r)
   taken-refused r q = sym (counting-of a n) ∙ ap (λ (z : Count). z .answer) (sym e ∙ ap countedOf q)
 
   module _ (k : ℕ) (q : t ≡ Records k) where

@@ -1,4 +1,4 @@
--- A network's words, as the host lends them: a head of 12, and 1,024 of records. Assumes nothing.
+-- A network's words, as the host lends them: a head of 12, and the array of records. Assumes nothing.
 use Prim.Native.Nat.{ℕ}
 use mathlib.Core.Bool.{Bool, true, false, cond, not, _&&_}
 use mathlib.Core.List.{List, [], _∷_}
@@ -6,12 +6,15 @@ use lib.Dec.{leb, eqb}
 use lib.ListN.{getD}
 use Rattle.chance.specs.Probability.{goodWord}
 use Rattle.basis.specs.Basis.{bit}
-use Rattle.nights.specs.Net.{Options}
-use Rattle.network.specs.declared.Head.{Head}
-use Rattle.network.specs.declared.Network.{Network}
-use Rattle.network_fates.specs.Options.{plainOptions, structOptions, perfectOptions}
-use Rattle.network.specs.Forms.{joined}
+use Rattle.nights.specs.Net.{Options, fresh}
+use Rattle.network_options.specs.Options.{plainOptions, structOptions, perfectOptions}
+use Rattle.network_form.specs.declared.Head.{Head}
+use Rattle.network_form.specs.Forms.{headOf}
 use Rattle.network_words.specs.declared.Loaded.{Loaded}
+
+-- how many words a head has
+abbrev pub headSize : ℕ
+headSize = 12
 
 -- the options at the head's front
 abbrev pub optionsIn : List ℕ → Options
@@ -49,26 +52,9 @@ headWords h =
     optionWords (plainOptions (h .options))
     (h .pending ∷ h .seq ∷ h .sent ∷ h .delivered ∷ h .lost ∷ h .replayed ∷ h .delayed ∷ [])
 
--- the network of a head's words and records
-abbrev pub networkIn : List ℕ → List ℕ → Network
-networkIn h r = joined (headIn h) r
-
--- INSIDE: what reading a head gives; where it does not fit, a head of zeros and the perfect options
-abbrev pub freshHead : Head
-freshHead =
-    record {
-      options = structOptions perfectOptions;
-      pending = 0;
-      seq = 0;
-      sent = 0;
-      delivered = 0;
-      lost = 0;
-      replayed = 0;
-      delayed = 0;
-    }
-
+-- INSIDE: what reading a head gives; where it does not fit, that of a fresh network of the perfect options
 abbrev pub unloaded : Loaded
-unloaded = record { fits = false; head = freshHead }
+unloaded = record { fits = false; head = headOf (fresh perfectOptions) }
 
 unfoldable pub loaded : List ℕ → Loaded
 loaded w = cond (headFits w) (record { fits = true; head = headIn w }) unloaded

@@ -4,28 +4,23 @@
 // A network is two rows of words. Its head is 12: the bits of the loss and of the replay probability, minimum, mean, whether client
 // messages are faulted (0 or 1), pending, seq, sent, delivered, lost, replayed, delayed. Its records are 1,024: eight words for each
 // pending message, in the order of delivery, and zeros behind them.
-use network::Counted;
-use network::Head;
-use network::SendAnswer;
-use network_fates::NetworkOptions;
-use network_fates::Refusal;
+use network_form::Head;
+use network_options::NetworkOptions;
+use network_options::number_of;
+use network_queue::WORDS;
+use network_send::Letter;
+use network_send::SendAnswer;
+use network_take::Counted;
 ghost use mathlib.Core.Path.{_≡_};
-ghost use mathlib.Core.Bool.{true, false, not};
-ghost use mathlib.Core.List.{[], _∷_};
+ghost use mathlib.Core.Bool.{true};
+ghost use mathlib.Core.List.{[]};
 ghost use Prim.Native.Nat.{ℕ};
-ghost use lib.Dec.{eqb};
-ghost use lib.ListN.{length, drop, replicate};
-ghost use Rattle.nights.specs.Record.{wordsOf};
-ghost use Rattle.basis.specs.Basis.{bit};
-ghost use Rattle.nights.specs.Net.{keep, isDue, goodOptions, send, take, choose};
-ghost use Rattle.nights.specs.Draws.{decided};
-ghost use Rattle.nights.specs.Journal.{verdict, optionTests};
-ghost use Rattle.network_fates.specs.Answers.{number};
-ghost use Rattle.network.specs.Forms.{plainOf, letterOf};
-ghost use Rattle.network_fates.specs.Options.{plainOptions};
-ghost use Rattle.network.specs.Calls.{written};
-ghost use Rattle.network_words.specs.Layout.{headWords, loaded, optionsFrom, networkIn, unloaded};
-ghost use Rattle.network_words.specs.Calls.{numberOf, onDone, answerIn, headAfter, recordsAfter, sendTold, formIn, listIn};
+ghost use Rattle.nights.specs.Net.{goodOptions};
+ghost use Rattle.nights.specs.Tests.{verdict, optionTests};
+ghost use Rattle.network_options.specs.Options.{plainOptions};
+ghost use Rattle.network_send.specs.Sends.{plainLetter};
+ghost use Rattle.network_words.specs.Layout.{headWords, loaded, optionsFrom, unloaded};
+ghost use Rattle.network_words.specs.Calls.{numberOf, newRows, optionRows, sendRows, takeRows, countRows, listRows};
 
 // The words of a head, and where it has each.
 pub const HEAD_WORDS: usize = 12;
@@ -55,42 +50,18 @@ const REPLAYED: usize = 10;
 const DELAYED: usize = 11;
 
 // The numbers of the refusals that words alone can meet.
-pub const BAD_LOSS: u64 = 20;
+const BAD_LOSS: u64 = 20;
 
-pub const BAD_REPLAY: u64 = 21;
+const BAD_REPLAY: u64 = 21;
 
-pub const MIN_OVER_MEAN: u64 = 22;
+const MIN_OVER_MEAN: u64 = 22;
 
 pub const ILL_FORMED: u64 = 23;
-
-pub const SHORT_OUTPUT: u64 = 30;
 
 // A head that was read: words that are no good probability, or a flag that is neither 0 nor 1, are none.
 pub struct Loaded {
     pub fits: bool,
     pub head: Head,
-}
-
-// A refusal's number.
-pub fn number_of(refusal: Refusal) -> u64
-    ensures { λ r. ⌜ r ≡ number refusal ⌝ }
-{
-    match refusal {
-        Refusal::BadLoss => 20,
-        Refusal::BadReplay => 21,
-        Refusal::MinOverMean => 22,
-        Refusal::IllFormed => 23,
-        Refusal::BadKindOrSort => 24,
-        Refusal::SentLimit => 25,
-        Refusal::ShortDraws => 26,
-        Refusal::ShortExtras => 27,
-        Refusal::LateTick => 28,
-        Refusal::Full => 29,
-        Refusal::ShortOutput => 30,
-        Refusal::BadJournal => 31,
-        Refusal::NoJournalRoom => 32,
-        Refusal::TooFarBack => 33,
-    }
 }
 
 // A head of zeros and the perfect options.
@@ -112,18 +83,8 @@ fn no_head() -> Loaded
     }
 }
 
-// Lent as a slice, a row tells the proofs its length, which its type says.
-fn as_row(_words: &[u64]) {}
-
-// The records are 1,024 words.
-pub fn whole(records: &[u64; 1024])
-    ensures { λ _. ⌜ length (now (records .entry)) ≡ 1024 ⌝ }
-{
-    as_row(records);
-}
-
 // The head of the words.
-pub fn load(words: &[u64; 12]) -> Loaded
+pub fn load(words: &[u64; HEAD_WORDS]) -> Loaded
     ensures { λ r. ⌜ r ≡ loaded (now (words .entry)) ⌝ }
 {
     let loss = words[LOSS];
@@ -162,7 +123,7 @@ pub fn load(words: &[u64; 12]) -> Loaded
 }
 
 // The words of a head of good options.
-pub fn store(head: Head, words: &mut [u64; 12])
+pub fn store(head: Head, words: &mut [u64; HEAD_WORDS])
     requires { ⌜ goodOptions (plainOptions (head .options)) ≡ true ⌝ }
     ensures { λ _. ⌜ now (words .exit) ≡ headWords head ⌝ }
 {
@@ -199,38 +160,19 @@ pub fn options_number(loss: u64, replay: u64, min: u64, mean: u64) -> u64
     0
 }
 
-// The five words of options.
-fn put_options(head: &mut [u64; 12], loss: u64, replay: u64, min: u64, mean: u64, flag: u64)
-    ensures { λ _. ⌜ now (head .exit) ≡ loss ∷ replay ∷ min ∷ mean ∷ bit (not (eqb flag 0)) ∷ drop 5 (now (head .entry)) ⌝ }
-{
-    as_row(head);
-    head[LOSS] = loss;
-    head[REPLAY] = replay;
-    head[MIN] = min;
-    head[MEAN] = mean;
-    head[FLAG] = basis::flag_word(flag != 0);
-}
-
-// Every word is 0.
-fn clear(records: &mut [u64; 1024])
-    ensures { λ _. ⌜ now (records .exit) ≡ replicate 1024 0 ⌝ }
-{
-    *records = [0u64; network_queue::WORDS];
-}
-
 // A fresh network of these options; the flag is no for 0 and yes otherwise.
 pub fn new(
-    head: &mut [u64; 12],
-    records: &mut [u64; 1024],
+    head: &mut [u64; HEAD_WORDS],
+    records: &mut [u64; WORDS],
     loss: u64,
     replay: u64,
     min: u64,
     mean: u64,
     flag: u64,
 ) -> u64
-    ensures answer { λ r. ⌜ r ≡ numberOf (verdict (optionTests (optionsFrom loss replay min mean flag) [])) ⌝ }
-    ensures head { λ _. ⌜ now (head .exit) ≡ onDone (verdict (optionTests (optionsFrom loss replay min mean flag) [])) (loss ∷ replay ∷ min ∷ mean ∷ bit (not (eqb flag 0)) ∷ replicate 7 0) (now (head .entry)) ⌝ }
-    ensures records { λ _. ⌜ now (records .exit) ≡ onDone (verdict (optionTests (optionsFrom loss replay min mean flag) [])) (replicate 1024 0) (now (records .entry)) ⌝ }
+    ensures answer { λ r. ⌜ r ≡ newRows (now (head .entry)) (now (records .entry)) (optionsFrom loss replay min mean flag) .number ⌝ }
+    ensures head { λ _. ⌜ now (head .exit) ≡ newRows (now (head .entry)) (now (records .entry)) (optionsFrom loss replay min mean flag) .head ⌝ }
+    ensures records { λ _. ⌜ now (records .exit) ≡ newRows (now (head .entry)) (now (records .entry)) (optionsFrom loss replay min mean flag) .records ⌝ }
 {
     let number = options_number(loss, replay, min, mean);
     if number != 0 {
@@ -250,76 +192,77 @@ pub fn new(
         0,
         0,
     ];
-    clear(records);
+    *records = [0u64; WORDS];
     0
 }
 
 // Replaces the options.
 pub fn set_options(
-    head: &mut [u64; 12],
-    records: &[u64; 1024],
+    head: &mut [u64; HEAD_WORDS],
+    records: &[u64; WORDS],
     loss: u64,
     replay: u64,
     min: u64,
     mean: u64,
     flag: u64,
 ) -> u64
-    ensures answer { λ r. ⌜ r ≡ numberOf (answerIn (choose (optionsFrom loss replay min mean flag)) (now (head .entry)) (now (records .entry))) ⌝ }
-    ensures head { λ _. ⌜ now (head .exit) ≡ headAfter (choose (optionsFrom loss replay min mean flag)) (now (head .entry)) (now (records .entry)) ⌝ }
+    ensures answer { λ r. ⌜ r ≡ optionRows (now (head .entry)) (now (records .entry)) (optionsFrom loss replay min mean flag) .number ⌝ }
+    ensures head { λ _. ⌜ now (head .exit) ≡ optionRows (now (head .entry)) (now (records .entry)) (optionsFrom loss replay min mean flag) .head ⌝ }
 {
     let loaded = load(head);
     if !loaded.fits {
         return ILL_FORMED;
     }
-    whole(records);
-    if !network::formed(records, loaded.head) {
+    network_queue::whole(records);
+    if !network_form::formed(records, loaded.head) {
         return ILL_FORMED;
     }
     let number = options_number(loss, replay, min, mean);
     if number != 0 {
         return number;
     }
-    as_row(head);
-    put_options(head, loss, replay, min, mean, flag);
+    let old = *head;
+    *head = [
+        loss,
+        replay,
+        min,
+        mean,
+        basis::flag_word(flag != 0),
+        old[PENDING],
+        old[SEQ],
+        old[SENT],
+        old[DELIVERED],
+        old[LOST],
+        old[REPLAYED],
+        old[DELAYED],
+    ];
     0
 }
 
 // Accepts a message sent at tick `now`: whether it was lost, whether it was replayed, and the draws and extras used are told.
 pub fn send(
-    head: &mut [u64; 12],
-    records: &mut [u64; 1024],
-    now: u64,
-    sort: u64,
-    origin: u64,
-    to: u64,
-    kind: u64,
-    handle: u64,
+    head: &mut [u64; HEAD_WORDS],
+    records: &mut [u64; WORDS],
+    letter: Letter,
     draws: &[u64],
     extras: &[u64],
     told: &mut [u64; 4],
 ) -> u64
-    ensures answer { λ r. ⌜ r ≡ numberOf (answerIn (send (letterOf now sort origin to kind handle) (draws .entry .now) (extras .entry .now)) (head .entry .now) (records .entry .now)) ⌝ }
-    ensures head { λ _. ⌜ head .exit .now ≡ headAfter (send (letterOf now sort origin to kind handle) (draws .entry .now) (extras .entry .now)) (head .entry .now) (records .entry .now) ⌝ }
-    ensures records { λ _. ⌜ records .exit .now ≡ recordsAfter (send (letterOf now sort origin to kind handle) (draws .entry .now) (extras .entry .now)) (head .entry .now) (records .entry .now) ⌝ }
-    ensures told { λ _. ⌜ told .exit .now ≡ onDone (answerIn (send (letterOf now sort origin to kind handle) (draws .entry .now) (extras .entry .now)) (head .entry .now) (records .entry .now)) (sendTold (decided (plainOf (networkIn (head .entry .now) (records .entry .now)) .options) now kind (draws .entry .now) (extras .entry .now))) (told .entry .now) ⌝ }
+    ensures answer { λ r. ⌜ r ≡ sendRows (now (head .entry)) (now (records .entry)) (plainLetter letter)
+        (now (draws .entry)) (now (extras .entry)) (now (told .entry)) .number ⌝ }
+    ensures head { λ _. ⌜ now (head .exit) ≡ sendRows (now (head .entry)) (now (records .entry)) (plainLetter letter)
+        (now (draws .entry)) (now (extras .entry)) (now (told .entry)) .head ⌝ }
+    ensures records { λ _. ⌜ now (records .exit) ≡ sendRows (now (head .entry)) (now (records .entry)) (plainLetter letter)
+        (now (draws .entry)) (now (extras .entry)) (now (told .entry)) .records ⌝ }
+    ensures told { λ _. ⌜ now (told .exit) ≡ sendRows (now (head .entry)) (now (records .entry)) (plainLetter letter)
+        (now (draws .entry)) (now (extras .entry)) (now (told .entry)) .told ⌝ }
 {
     let loaded = load(head);
     if !loaded.fits {
         return ILL_FORMED;
     }
-    whole(records);
-    let sent = network::send_in(
-        records,
-        loaded.head,
-        now,
-        sort,
-        origin,
-        to,
-        kind,
-        handle,
-        draws,
-        extras,
-    );
+    network_queue::whole(records);
+    let sent = network_send::send_in(records, loaded.head, letter, draws, extras);
     let answer = sent.answer;
     match answer {
         SendAnswer::Refused(refusal) => number_of(refusal),
@@ -341,26 +284,26 @@ pub fn send(
     }
 }
 
-// Takes every message due at tick `now` to the front of the lent output: how many they are is told.
+// Takes every message due at a tick to the front of the lent output: how many they are is told.
 pub fn take_due(
-    head: &mut [u64; 12],
-    records: &mut [u64; 1024],
-    now: u64,
+    head: &mut [u64; HEAD_WORDS],
+    records: &mut [u64; WORDS],
+    tick: u64,
     out: &mut [u64],
     told: &mut [u64; 1],
 ) -> u64
-    ensures answer { λ r. ⌜ r ≡ numberOf (answerIn (take now (length (out .entry .now))) (head .entry .now) (records .entry .now)) ⌝ }
-    ensures head { λ _. ⌜ head .exit .now ≡ headAfter (take now (length (out .entry .now))) (head .entry .now) (records .entry .now) ⌝ }
-    ensures records { λ _. ⌜ records .exit .now ≡ recordsAfter (take now (length (out .entry .now))) (head .entry .now) (records .entry .now) ⌝ }
-    ensures out { λ _. ⌜ out .exit .now ≡ written (answerIn (take now (length (out .entry .now))) (head .entry .now) (records .entry .now)) (wordsOf (keep (isDue now) (plainOf (networkIn (head .entry .now) (records .entry .now)) .pending))) (out .entry .now) ⌝ }
-    ensures told { λ _. ⌜ told .exit .now ≡ onDone (answerIn (take now (length (out .entry .now))) (head .entry .now) (records .entry .now)) (length (keep (isDue now) (plainOf (networkIn (head .entry .now) (records .entry .now)) .pending)) ∷ []) (told .entry .now) ⌝ }
+    ensures answer { λ r. ⌜ r ≡ takeRows (now (head .entry)) (now (records .entry)) tick (now (out .entry)) (now (told .entry)) .number ⌝ }
+    ensures head { λ _. ⌜ now (head .exit) ≡ takeRows (now (head .entry)) (now (records .entry)) tick (now (out .entry)) (now (told .entry)) .head ⌝ }
+    ensures records { λ _. ⌜ now (records .exit) ≡ takeRows (now (head .entry)) (now (records .entry)) tick (now (out .entry)) (now (told .entry)) .records ⌝ }
+    ensures out { λ _. ⌜ now (out .exit) ≡ takeRows (now (head .entry)) (now (records .entry)) tick (now (out .entry)) (now (told .entry)) .out ⌝ }
+    ensures told { λ _. ⌜ now (told .exit) ≡ takeRows (now (head .entry)) (now (records .entry)) tick (now (out .entry)) (now (told .entry)) .told ⌝ }
 {
     let loaded = load(head);
     if !loaded.fits {
         return ILL_FORMED;
     }
-    whole(records);
-    let taken = network::take_in(records, loaded.head, now, out);
+    network_queue::whole(records);
+    let taken = network_take::take_in(records, loaded.head, tick, out);
     let answer = taken.answer;
     match answer {
         Counted::Refused(refusal) => number_of(refusal),
@@ -374,45 +317,46 @@ pub fn take_due(
 
 // The messages in flight, in delivery order, at the front of the lent output: how many they are is told.
 pub fn in_flight(
-    head: &[u64; 12],
-    records: &[u64; 1024],
+    head: &[u64; HEAD_WORDS],
+    records: &[u64; WORDS],
     out: &mut [u64],
     told: &mut [u64; 1],
 ) -> u64
-    ensures answer { λ r. ⌜ r ≡ numberOf (listIn (now (head .entry)) (now (records .entry)) (length (now (out .entry)))) ⌝ }
-    ensures out { λ _. ⌜ now (out .exit) ≡ written (listIn (now (head .entry)) (now (records .entry)) (length (now (out .entry)))) (wordsOf (plainOf (networkIn (now (head .entry)) (now (records .entry))) .pending)) (now (out .entry)) ⌝ }
-    ensures told { λ _. ⌜ now (told .exit) ≡ onDone (listIn (now (head .entry)) (now (records .entry)) (length (now (out .entry)))) (length (plainOf (networkIn (now (head .entry)) (now (records .entry))) .pending) ∷ []) (now (told .entry)) ⌝ }
+    ensures answer { λ r. ⌜ r ≡ listRows (now (head .entry)) (now (records .entry)) (now (out .entry)) (now (told .entry)) .number ⌝ }
+    ensures out { λ _. ⌜ now (out .exit) ≡ listRows (now (head .entry)) (now (records .entry)) (now (out .entry)) (now (told .entry)) .out ⌝ }
+    ensures told { λ _. ⌜ now (told .exit) ≡ listRows (now (head .entry)) (now (records .entry)) (now (out .entry)) (now (told .entry)) .told ⌝ }
 {
     let loaded = load(head);
     if !loaded.fits {
         return ILL_FORMED;
     }
-    whole(records);
-    if !network::formed(records, loaded.head) {
-        return ILL_FORMED;
+    network_queue::whole(records);
+    let listed = network_take::list_in(records, loaded.head, out);
+    match listed {
+        Counted::Refused(refusal) => number_of(refusal),
+        Counted::Records(count) => {
+            *told = [count as u64];
+            0
+        }
     }
-    let n = head[PENDING] as usize;
-    if out.len() < n * network_queue::RECORD_SIZE {
-        return SHORT_OUTPUT;
-    }
-    network_queue::copy_out(records, n * network_queue::RECORD_SIZE, out);
-    *told = [n as u64];
-    0
 }
 
 // How many messages are in flight is told.
-pub fn pending(head: &[u64; 12], records: &[u64; 1024], told: &mut [u64; 1]) -> u64
-    ensures answer { λ r. ⌜ r ≡ numberOf (formIn (now (head .entry)) (now (records .entry))) ⌝ }
-    ensures told { λ _. ⌜ now (told .exit) ≡ onDone (formIn (now (head .entry)) (now (records .entry))) (length (plainOf (networkIn (now (head .entry)) (now (records .entry))) .pending) ∷ []) (now (told .entry)) ⌝ }
+pub fn pending(head: &[u64; HEAD_WORDS], records: &[u64; WORDS], told: &mut [u64; 1]) -> u64
+    ensures answer { λ r. ⌜ r ≡ countRows (now (head .entry)) (now (records .entry)) (now (told .entry)) .number ⌝ }
+    ensures told { λ _. ⌜ now (told .exit) ≡ countRows (now (head .entry)) (now (records .entry)) (now (told .entry)) .told ⌝ }
 {
     let loaded = load(head);
     if !loaded.fits {
         return ILL_FORMED;
     }
-    whole(records);
-    if !network::formed(records, loaded.head) {
-        return ILL_FORMED;
+    network_queue::whole(records);
+    let counted = network_take::count_in(records, loaded.head);
+    match counted {
+        Counted::Refused(refusal) => number_of(refusal),
+        Counted::Records(count) => {
+            *told = [count as u64];
+            0
+        }
     }
-    *told = [head[PENDING]];
-    0
 }

@@ -3,7 +3,7 @@ use Prim.Native.Nat.{ℕ, _≤_}
 use mathlib.Core.Path.{_≡_, refl, sym, ap, _∙_, subst}
 use mathlib.Core.List.{List, _∷_, _++_}
 use mathlib.Core.Bool.{true}
-use Rattle.nights.specs.Net.{Options, Draws, Plain, goodOptions}
+use Rattle.nights.specs.Net.{Options, Draws, Change, goodOptions}
 use Rattle.nights.specs.Journal.{Call, mark}
 use Rattle.nights.specs.Rule.{reach, stack, stands, replay, recorded, Earlier, Claim}
 use Rattle.nights.specs.Draws.{fateOf}
@@ -20,11 +20,11 @@ claim fate o good rest cs =
           λ (k : ℕ) (h : k ≤ reach fate o rest cs).
           let e : Earlier fate o rest cs k = earlier-time fate o rest cs k in
           let r = rewinds fate o good rest cs k h in
-          (e, r .0, r .1 ∙ sym (fold-of-standing fate o good rest (e .before) ∙ ap (λ (l : List Plain). replay fate o l) (e .there)));
+          (e, r .0, r .1 ∙ sym (fold-of-standing fate o good rest (e .before) ∙ ap (λ (l : List Change). replay fate o l) (e .there)));
       stops = no-further fate o good rest cs;
       marks =
           λ (before later : List Call) (e : cs ≡ before ++ (mark ∷ later)).
-          subst (λ (l : List Call). (more : List Plain) × (stands fate o rest l ≡ stands fate o rest before ++ more)) (sym e)
+          subst (λ (l : List Call). (more : List Change) × (stands fate o rest l ≡ stands fate o rest before ++ more)) (sym e)
           (mark-holds fate o good rest before later);
       holds =
           the-journal-holds fate o good rest cs (reach fate o rest cs)

@@ -7,7 +7,7 @@ use mathlib.Core.Bool.{Bool, true, false, cond}
 use native.Mathlib.Omega.{arith}
 use lib.ListN.{length, length-append, length-map}
 use Rattle.nights.specs.Record.{Record}
-use Rattle.nights.specs.Net.{Options, Network, keep, insertBy, insertAll, dues, Draws, Letter, copies, Plain, send, take as takes, choose, goodOptions, rising}
+use Rattle.nights.specs.Net.{Options, Plain, keep, insertBy, insertAll, dues, Draws, Letter, copies, Change, send, collect, choose, goodOptions, rising}
 use Rattle.nights.specs.Journal.{Call}
 use Rattle.nights.specs.Rule.{ran, stack, stands, optionsBy, makes, Made, followed, made, waits, copyOf, from, seqOf, Exactly, replay}
 use Rattle.nights.proofs.Order.{precedes}
@@ -137,19 +137,19 @@ from-append a (suc n) k =
     let y : a + suc n ≡ a + 1 + n = omega arith in
     rw (z, y, from-append (a + 1) n k)
 
-copies-numbers : (later : List Plain) (m : Letter) (q : ℕ) (ds : List ℕ) → map seqOf (map (followed later) (copies m q ds)) ≡ from (q + 1) (length (copies m q ds))
+copies-numbers : (later : List Change) (m : Letter) (q : ℕ) (ds : List ℕ) → map seqOf (map (followed later) (copies m q ds)) ≡ from (q + 1) (length (copies m q ds))
 unfolding copies from
 copies-numbers later m q [] = refl
 copies-numbers later m q (d ∷ ds) = ap (λ (l : List ℕ). (q + 1) ∷ l) (copies-numbers later m (q + 1) ds)
 
-makes-numbers : (fate : Draws) (o : Options) (q : ℕ) (c : Plain) (later : List Plain)
+makes-numbers : (fate : Draws) (o : Options) (q : ℕ) (c : Change) (later : List Change)
     → map seqOf (map (followed later) (makes fate o q c)) ≡ from (q + 1) (length (makes fate o q c))
 unfolding makes from
 makes-numbers fate o q (send m draws extras) later = copies-numbers later m q (dues (fate o (m .now) (m .kind) draws extras))
-makes-numbers fate o q (takes now room) later = refl
+makes-numbers fate o q (collect now room) later = refl
 makes-numbers fate o q (choose p) later = refl
 
-made-numbers : (fate : Draws) (o : Options) (q : ℕ) (st : List Plain) → map seqOf (made fate o q st) ≡ from (q + 1) (length (made fate o q st))
+made-numbers : (fate : Draws) (o : Options) (q : ℕ) (st : List Change) → map seqOf (made fate o q st) ≡ from (q + 1) (length (made fate o q st))
 unfolding made from
 made-numbers fate o q [] = refl
 made-numbers fate o q (c ∷ later) =
@@ -162,7 +162,7 @@ made-numbers fate o q (c ∷ later) =
     ∙ rw (l, from-append (q + 1) (length rs) (length ms), h, makes-numbers fate o q c later)
 
 -- THE THEOREM
-exactly-rule : (fate : Draws) (o : Options) (st : List Plain) (l : List Record) → l ≡ sortedCopies fate o st → rising l ≡ true
+exactly-rule : (fate : Draws) (o : Options) (st : List Change) (l : List Record) → l ≡ sortedCopies fate o st → rising l ≡ true
     → Exactly (made fate o 0 st) l
 exactly-rule fate o st l e h =
     let ms : List Made = made fate o 0 st in
@@ -187,8 +187,8 @@ exactly-rule fate o st l e h =
 pub the-pending-are-exactly : (fate : Draws) (o : Options) (good : goodOptions o ≡ true) (rest : List ℕ) (cs : List Call)
     → Exactly (made fate o 0 (stands fate o rest cs)) (ran fate o rest cs .net .pending)
 the-pending-are-exactly fate o good rest cs =
-    let st : List Plain = stack fate o rest cs in
-    let n : Network = ran fate o rest cs .net in
+    let st : List Change = stack fate o rest cs in
+    let n : Plain = ran fate o rest cs .net in
     let e : n ≡ replay fate o st = fold-of-standing fate o good rest cs in
     let h : rising (n .pending) ≡ true = rw e (rises-of (replay fate o st) (good-replay fate o st) (fit-replay fate o st good (all-sound fate o good rest cs))) in
     exactly-rule fate o (stands fate o rest cs) (n .pending) (the-pending-are-sorted fate o good rest cs) h

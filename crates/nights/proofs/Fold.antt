@@ -6,27 +6,27 @@ use mathlib.Core.Bool.{Bool, true, false, cond}
 use native.Mathlib.Omega.{arith}
 use lib.ListN.{length, length-append, length-map}
 use Rattle.nights.specs.Record.{Record}
-use Rattle.nights.specs.Net.{Options, Network, fresh, keep, insertBy, insertAll, Fate, dues, lostBy, replayedBy, delayedBy, Draws, Letter, copies, Plain, send, take as takes, choose, isLater, effect, goodOptions}
+use Rattle.nights.specs.Net.{Options, Plain, fresh, keep, insertBy, insertAll, Fate, dues, lostBy, replayedBy, delayedBy, Draws, Letter, copies, Change, send, collect, choose, isLater, effect, goodOptions}
 use Rattle.nights.specs.Rule.{replay, optionsBy, optionsRule, fateBy, fates, total, makes, Made, followed, made, missedBy, untaken, waits, copyOf, deliveredRule, sentRule, lostRule, replayedRule, delayedRule, Counted}
 use Rattle.nights.proofs.Order.{All, Ordered, Newer, all-insert, length-split, keep-keep, keep-all, ordered-insert, insertAll-append, length-insertAll, unseen, seen}
 use Rattle.nights.proofs.Good.{Numbered, Good, copyAt, raise, newer, length-copies, good-effect, good-fresh, good-replay, Sound, Fit, fit-replay}
 
 -- the fold again, from any network and with the oldest first
-unfoldable pub forward : Draws → Network → List Plain → Network
+unfoldable pub forward : Draws → Plain → List Change → Plain
 forward fate n [] = n
 forward fate n (c ∷ later) = forward fate (effect fate c n) later
 
-forward-append : (fate : Draws) (n : Network) (a b : List Plain) → forward fate n (a ++ b) ≡ forward fate (forward fate n a) b
+forward-append : (fate : Draws) (n : Plain) (a b : List Change) → forward fate n (a ++ b) ≡ forward fate (forward fate n a) b
 unfolding forward
 forward-append fate n [] b = refl
 forward-append fate n (c ∷ a) b = forward-append fate (effect fate c n) a b
 
-pub replay-forward : (fate : Draws) (o : Options) (st : List Plain) → replay fate o st ≡ forward fate (fresh o) (reverse st)
+pub replay-forward : (fate : Draws) (o : Options) (st : List Change) → replay fate o st ≡ forward fate (fresh o) (reverse st)
 unfolding replay forward
 replay-forward fate o [] = refl
 replay-forward fate o (c ∷ st) =
-    ap (λ (n : Network). effect fate c n) (replay-forward fate o st)
-    ∙ sym (ap (λ (l : List Plain). forward fate (fresh o) l) (reverse-cons c st) ∙ forward-append fate (fresh o) (reverse st) (c ∷ []))
+    ap (λ (n : Plain). effect fate c n) (replay-forward fate o st)
+    ∙ sym (ap (λ (l : List Change). forward fate (fresh o) l) (reverse-cons c st) ∙ forward-append fate (fresh o) (reverse st) (c ∷ []))
 
 -- a filter passes the insertion of new copies
 seen-first : (b : Bool) (f : Record → Bool) (r : Record) (rs l : List Record) → f r ≡ b → Ordered l → Newer r l
@@ -47,49 +47,49 @@ copies-seen f m q (d ∷ ds) l a b =
 
 -- ONE CALL, as the rule sees it
 module _ (fate : Draws) where
-  one-options : (c : Plain) (n : Network) → effect fate c n .options ≡ optionsBy (n .options) c
+  one-options : (c : Change) (n : Plain) → effect fate c n .options ≡ optionsBy (n .options) c
   unfolding effect optionsBy
   one-options (send m draws extras) n = refl
-  one-options (takes now room) n = refl
+  one-options (collect now room) n = refl
   one-options (choose o) n = refl
 
-  one-seq : (c : Plain) (n : Network) → effect fate c n .seq ≡ n .seq + length (makes fate (n .options) (n .seq) c)
+  one-seq : (c : Change) (n : Plain) → effect fate c n .seq ≡ n .seq + length (makes fate (n .options) (n .seq) c)
   unfolding effect makes
   one-seq (send m draws extras) n = rw (length-copies m (n .seq) (dues (fate (n .options) (m .now) (m .kind) draws extras)))
-  one-seq (takes now room) n = omega arith
+  one-seq (collect now room) n = omega arith
   one-seq (choose o) n = omega arith
 
-  one-pending : (c : Plain) (later : List Plain) (n : Network) → Good n
+  one-pending : (c : Change) (later : List Change) (n : Plain) → Good n
       → keep (untaken later) (effect fate c n .pending)
       ≡ insertAll (keep (untaken later) (makes fate (n .options) (n .seq) c)) (keep (untaken (c ∷ later)) (n .pending))
   unfolding effect makes untaken missedBy keep insertAll
   one-pending (send m draws extras) later n g =
       copies-seen (untaken later) m (n .seq) (dues (fate (n .options) (m .now) (m .kind) draws extras)) (n .pending) (g .ordered) (g .numbered)
-  one-pending (takes now room) later n g = keep-keep (untaken later) (isLater now) (n .pending)
+  one-pending (collect now room) later n g = keep-keep (untaken later) (isLater now) (n .pending)
   one-pending (choose o) later n g = refl
 
-  one-sent : (c : Plain) (n : Network) → effect fate c n .sent ≡ n .sent + length (fateBy fate (n .options) c)
+  one-sent : (c : Change) (n : Plain) → effect fate c n .sent ≡ n .sent + length (fateBy fate (n .options) c)
   unfolding effect fateBy
   one-sent (send m draws extras) n = refl
-  one-sent (takes now room) n = omega arith
+  one-sent (collect now room) n = omega arith
   one-sent (choose o) n = omega arith
 
-  one-lost : (c : Plain) (n : Network) → effect fate c n .lost ≡ n .lost + total lostBy (fateBy fate (n .options) c)
+  one-lost : (c : Change) (n : Plain) → effect fate c n .lost ≡ n .lost + total lostBy (fateBy fate (n .options) c)
   unfolding effect fateBy total
   one-lost (send m draws extras) n = omega arith
-  one-lost (takes now room) n = omega arith
+  one-lost (collect now room) n = omega arith
   one-lost (choose o) n = omega arith
 
-  one-replayed : (c : Plain) (n : Network) → effect fate c n .replayed ≡ n .replayed + total replayedBy (fateBy fate (n .options) c)
+  one-replayed : (c : Change) (n : Plain) → effect fate c n .replayed ≡ n .replayed + total replayedBy (fateBy fate (n .options) c)
   unfolding effect fateBy total
   one-replayed (send m draws extras) n = omega arith
-  one-replayed (takes now room) n = omega arith
+  one-replayed (collect now room) n = omega arith
   one-replayed (choose o) n = omega arith
 
-  one-delayed : (c : Plain) (n : Network) → effect fate c n .delayed ≡ n .delayed + total delayedBy (fateBy fate (n .options) c)
+  one-delayed : (c : Change) (n : Plain) → effect fate c n .delayed ≡ n .delayed + total delayedBy (fateBy fate (n .options) c)
   unfolding effect fateBy total
   one-delayed (send m draws extras) n = omega arith
-  one-delayed (takes now room) n = omega arith
+  one-delayed (collect now room) n = omega arith
   one-delayed (choose o) n = omega arith
 
 -- ALL CALLS
@@ -110,7 +110,7 @@ first-step : (b : Bool) (x : Made) (l : List Made) (m k : List Record) → map c
 first-step true x l m k e = ap (λ (z : List Record). x .copy ∷ z) e
 first-step false x l m k e = e
 
-first-copies : (later : List Plain) (rs : List Record) (ms : List Made)
+first-copies : (later : List Change) (rs : List Record) (ms : List Made)
     → map copyOf (keep waits (map (followed later) rs ++ ms))
     ≡ keep (untaken later) rs ++ map copyOf (keep waits ms)
 unfolding keep
@@ -123,12 +123,12 @@ first-copies later (r ∷ rs) ms =
     (first-copies later rs ms)
 
 module _ (fate : Draws) where
-  fold-options : (cs : List Plain) (n : Network) → forward fate n cs .options ≡ optionsRule (n .options) cs
+  fold-options : (cs : List Change) (n : Plain) → forward fate n cs .options ≡ optionsRule (n .options) cs
   unfolding forward optionsRule
   fold-options [] n = refl
   fold-options (c ∷ later) n = fold-options later (effect fate c n) ∙ ap (λ (o : Options). optionsRule o later) (one-options fate c n)
 
-  fold-seq : (cs : List Plain) (n : Network) → forward fate n cs .seq ≡ n .seq + length (made fate (n .options) (n .seq) cs)
+  fold-seq : (cs : List Change) (n : Plain) → forward fate n cs .seq ≡ n .seq + length (made fate (n .options) (n .seq) cs)
   unfolding forward made
   fold-seq [] n = omega arith
   fold-seq (c ∷ later) n =
@@ -144,7 +144,7 @@ module _ (fate : Draws) where
         length-map rs (followed later),
       )
 
-  fold-pending : (cs : List Plain) (n : Network) → Good n
+  fold-pending : (cs : List Change) (n : Plain) → Good n
       → forward fate n cs .pending
       ≡ insertAll (map copyOf (keep waits (made fate (n .options) (n .seq) cs))) (keep (untaken cs) (n .pending))
   unfolding forward made keep insertAll
@@ -160,7 +160,7 @@ module _ (fate : Draws) where
       ∙ (sym (insertAll-append (keep (untaken later) rs) (map copyOf (keep waits ms)) (keep (untaken (c ∷ later)) (n .pending)))
       ∙ ap (λ (z : List Record). insertAll z (keep (untaken (c ∷ later)) (n .pending))) (sym (first-copies later rs ms))))
 
-  fold-sent : (cs : List Plain) (n : Network) → forward fate n cs .sent ≡ n .sent + length (fates fate (n .options) cs)
+  fold-sent : (cs : List Change) (n : Plain) → forward fate n cs .sent ≡ n .sent + length (fates fate (n .options) cs)
   unfolding forward fates
   fold-sent [] n = omega arith
   fold-sent (c ∷ later) n =
@@ -169,9 +169,9 @@ module _ (fate : Draws) where
       omega (arith, h, one-sent fate c n, length-append (fateBy fate (n .options) c) (fates fate (optionsBy (n .options) c) later))
 
   -- a counter that each call raises by what the fates say
-  module _ (count : Network → ℕ) (by : Fate → ℕ)
-      (one : (c : Plain) (n : Network) → count (effect fate c n) ≡ count n + total by (fateBy fate (n .options) c)) where
-    fold-total : (cs : List Plain) (n : Network) → count (forward fate n cs) ≡ count n + total by (fates fate (n .options) cs)
+  module _ (count : Plain → ℕ) (by : Fate → ℕ)
+      (one : (c : Change) (n : Plain) → count (effect fate c n) ≡ count n + total by (fateBy fate (n .options) c)) where
+    fold-total : (cs : List Change) (n : Plain) → count (forward fate n cs) ≡ count n + total by (fates fate (n .options) cs)
     unfolding forward fates total
     fold-total [] n = omega arith
     fold-total (c ∷ later) n =
@@ -182,31 +182,31 @@ module _ (fate : Draws) where
 -- STEP 3
 
 -- the copies that wait, sorted by due tick and then by seq
-abbrev pub sortedCopies : Draws → Options → List Plain → List Record
+abbrev pub sortedCopies : Draws → Options → List Change → List Record
 sortedCopies fate o st = insertAll (map copyOf (keep waits (made fate o 0 st))) []
 
-module _ (fate : Draws) (o : Options) (st : List Plain) where
-  sorted-forward : (n : Network) → n ≡ forward fate (fresh o) (reverse st) → n .pending ≡ sortedCopies fate o (reverse st)
+module _ (fate : Draws) (o : Options) (st : List Change) where
+  sorted-forward : (n : Plain) → n ≡ forward fate (fresh o) (reverse st) → n .pending ≡ sortedCopies fate o (reverse st)
   unfolding keep
-  sorted-forward n e = ap (λ (x : Network). x .pending) e ∙ fold-pending fate (reverse st) (fresh o) (good-fresh o)
+  sorted-forward n e = ap (λ (x : Plain). x .pending) e ∙ fold-pending fate (reverse st) (fresh o) (good-fresh o)
 
-  counted-forward : (n : Network) → n ≡ forward fate (fresh o) (reverse st) → Good n → Fit n → Counted fate o (reverse st) n
+  counted-forward : (n : Plain) → n ≡ forward fate (fresh o) (reverse st) → Good n → Fit n → Counted fate o (reverse st) n
   counted-forward n e g t =
-      let r : List Plain = reverse st in
+      let r : List Change = reverse st in
       let ms : List Made = made fate o 0 r in
-      let seq : n .seq ≡ length ms = omega (arith, ap (λ (x : Network). x .seq) e, fold-seq fate r (fresh o)) in
-      let sent : n .sent ≡ sentRule fate o r = omega (arith, ap (λ (x : Network). x .sent) e, fold-sent fate r (fresh o)) in
+      let seq : n .seq ≡ length ms = omega (arith, ap (λ (x : Plain). x .seq) e, fold-seq fate r (fresh o)) in
+      let sent : n .sent ≡ sentRule fate o r = omega (arith, ap (λ (x : Plain). x .sent) e, fold-sent fate r (fresh o)) in
       let lost : n .lost ≡ lostRule fate o r =
-      omega (arith, ap (λ (x : Network). x .lost) e, fold-total fate (λ (x : Network). x .lost) lostBy (one-lost fate) r (fresh o)) in
+      omega (arith, ap (λ (x : Plain). x .lost) e, fold-total fate (λ (x : Plain). x .lost) lostBy (one-lost fate) r (fresh o)) in
       let replayed : n .replayed ≡ replayedRule fate o r =
-      omega (arith, ap (λ (x : Network). x .replayed) e, fold-total fate (λ (x : Network). x .replayed) replayedBy (one-replayed fate) r (fresh o)) in
+      omega (arith, ap (λ (x : Plain). x .replayed) e, fold-total fate (λ (x : Plain). x .replayed) replayedBy (one-replayed fate) r (fresh o)) in
       let delayed : n .delayed ≡ delayedRule fate o r =
-      omega (arith, ap (λ (x : Network). x .delayed) e, fold-total fate (λ (x : Network). x .delayed) delayedBy (one-delayed fate) r (fresh o)) in
+      omega (arith, ap (λ (x : Plain). x .delayed) e, fold-total fate (λ (x : Plain). x .delayed) delayedBy (one-delayed fate) r (fresh o)) in
       let waiting : length (n .pending) ≡ length (keep waits ms) =
       ap length (sorted-forward n e) ∙ omega (arith, length-insertAll (map copyOf (keep waits ms)) [], length-map (keep waits ms) copyOf) in
       let delivered : n .delivered ≡ deliveredRule fate o r = omega (arith, g .counted, length-split waits ms) in
       record {
-        options = ap (λ (x : Network). x .options) e ∙ fold-options fate r (fresh o);
+        options = ap (λ (x : Plain). x .options) e ∙ fold-options fate r (fresh o);
         seq = seq;
         sent = sent;
         delivered = delivered;

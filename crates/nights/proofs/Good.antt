@@ -8,8 +8,8 @@ use borrow.Author.Tests.{le-leb, eq-eqb, ne-eqb}
 use lib.ListN.{length}
 use Rattle.nights.specs.Record.{Record}
 use Rattle.basis.proofs.Laws.{bit-le}
-use Rattle.nights.specs.Net.{capacity, sentLimit, lastKind, lastSort, Options, Network, fresh, every, insertBy, insertAll, Fate, refuse, lose, once, twice, dues, lostBy, replayedBy, delayedBy, Draws, Letter, copies, Plain, send, take as takes, choose, isDue, isLater, sendOne, takeDue, setOptions, effect, goodOptions, goodRecord, ahead, rising, goodCounts, wellFormed}
-use Rattle.nights.specs.Journal.{allowed}
+use Rattle.nights.specs.Net.{capacity, sentLimit, lastKind, lastSort, Options, Plain, fresh, every, insertBy, insertAll, Fate, refuse, lose, once, twice, dues, lostBy, replayedBy, delayedBy, Draws, Letter, copies, Change, send, collect, choose, isDue, isLater, sendOne, takeDue, setOptions, effect, goodOptions, goodRecord, ahead, rising, goodCounts, wellFormed}
+use Rattle.nights.specs.Tests.{allowed}
 use Rattle.nights.specs.Rule.{replay}
 use Rattle.nights.proofs.Order.{Before, All, Ordered, Newer, before-earlier, all-map, all-both, all-keep, all-insert, all-insertAll, length-split, ordered-keep, ordered-insert, length-insertAll, Unlike, Apart, apart-keep, apart-insert}
 
@@ -18,7 +18,7 @@ use Rattle.nights.proofs.Order.{Before, All, Ordered, Newer, before-ear
 abbrev pub Numbered : ℕ → List Record → Type 0
 Numbered q l = All (λ (x : Record). x .seq ≤ q) l
 
-pub record Good (n : Network) : Type 0 where
+pub record Good (n : Plain) : Type 0 where
   pub ordered : Ordered (n .pending)
   pub numbered : Numbered (n .seq) (n .pending)
   pub counted : n .seq ≡ n .delivered + length (n .pending)
@@ -57,7 +57,7 @@ copies-ordered m q (d ∷ ds) l a b =
     (ordered-insert (copyAt m q d) l a (newer m q d l b))
     (all-insert (λ (x : Record). x .seq ≤ q + 1) (copyAt m q d) l (omega arith) (raise q (q + 1) (omega arith) l b))
 
-good-send : (m : Letter) (f : Fate) (n : Network) → Good n → Good (sendOne m f n)
+good-send : (m : Letter) (f : Fate) (n : Plain) → Good n → Good (sendOne m f n)
 good-send m f n g =
     record {
       ordered = copies-ordered m (n .seq) (dues f) (n .pending) (g .ordered) (g .numbered);
@@ -69,7 +69,7 @@ good-send m f n g =
           omega (arith, g .counted, length-insertAll (copies m (n .seq) (dues f)) (n .pending), length-copies m (n .seq) (dues f));
     }
 
-good-take : (now : ℕ) (n : Network) → Good n → Good (takeDue now n)
+good-take : (now : ℕ) (n : Plain) → Good n → Good (takeDue now n)
 good-take now n g =
     record {
       ordered = ordered-keep (isLater now) (n .pending) (g .ordered);
@@ -77,19 +77,19 @@ good-take now n g =
       counted = omega (arith, g .counted, length-split (isDue now) (n .pending));
     }
 
-good-set : (o : Options) (n : Network) → Good n → Good (setOptions o n)
+good-set : (o : Options) (n : Plain) → Good n → Good (setOptions o n)
 good-set o n g = record { ordered = g .ordered; numbered = g .numbered; counted = g .counted }
 
-pub good-effect : (fate : Draws) (c : Plain) (n : Network) → Good n → Good (effect fate c n)
+pub good-effect : (fate : Draws) (c : Change) (n : Plain) → Good n → Good (effect fate c n)
 unfolding effect
 good-effect fate (send m draws extras) n g = good-send m (fate (n .options) (m .now) (m .kind) draws extras) n g
-good-effect fate (takes now room) n g = good-take now n g
+good-effect fate (collect now room) n g = good-take now n g
 good-effect fate (choose o) n g = good-set o n g
 
 pub good-fresh : (o : Options) → Good (fresh o)
 good-fresh o = record { ordered = tt; numbered = tt; counted = refl }
 
-pub good-replay : (fate : Draws) (o : Options) (st : List Plain) → Good (replay fate o st)
+pub good-replay : (fate : Draws) (o : Options) (st : List Change) → Good (replay fate o st)
 unfolding replay
 good-replay fate o [] = good-fresh o
 good-replay fate o (c ∷ st) = good-effect fate c (replay fate o st) (good-replay fate o st)
@@ -97,20 +97,20 @@ good-replay fate o (c ∷ st) = good-effect fate c (replay fate o st) (good-repl
 -- WHAT ACCEPTED CALLS KEEP
 
 -- what a call was found to be when it was accepted
-pub record PassedSend (m : Letter) (f : Fate) (n : Network) : Type 0 where
+pub record PassedSend (m : Letter) (f : Fate) (n : Plain) : Type 0 where
   pub kind : m .kind ≤ 10
   pub sort : m .sort ≤ 1
   pub sent : n .sent < sentLimit
   pub fated : allowed f ≡ true
   pub small : length (n .pending) + length (dues f) ≤ capacity
 
-abbrev pub Passed : Draws → Plain → Network → Type 0
+abbrev pub Passed : Draws → Change → Plain → Type 0
 Passed fate (send m draws extras) n = PassedSend m (fate (n .options) (m .now) (m .kind) draws extras) n
-Passed fate (takes now room) n = Unit {0}
+Passed fate (collect now room) n = Unit {0}
 Passed fate (choose o) n = goodOptions o ≡ true
 
 -- a standing list whose calls were accepted, the newest first
-abbrev pub Sound : Draws → Options → List Plain → Type 0
+abbrev pub Sound : Draws → Options → List Change → Type 0
 Sound fate o [] = Unit {0}
 Sound fate o (c ∷ older) = Passed fate c (replay fate o older) × Sound fate o older
 
@@ -119,7 +119,7 @@ pub record Fine (x : Record) : Type 0 where
   pub kind : x .kind ≤ lastKind
   pub sort : x .sort ≤ lastSort
 
-pub record Fit (n : Network) : Type 0 where
+pub record Fit (n : Plain) : Type 0 where
   pub chances : goodOptions (n .options) ≡ true
   pub fine : All Fine (n .pending)
   pub apart : Apart (n .pending)
@@ -158,7 +158,7 @@ apart-copies m q (d ∷ ds) l a b =
     (apart-insert (copyAt m q d) l a (newer m q d l b))
     (all-insert (λ (x : Record). x .seq ≤ q + 1) (copyAt m q d) l (omega arith) (raise q (q + 1) (omega arith) l b))
 
-fit-send : (m : Letter) (f : Fate) (n : Network) → Good n → PassedSend m f n → Fit n → Fit (sendOne m f n)
+fit-send : (m : Letter) (f : Fate) (n : Plain) → Good n → PassedSend m f n → Fit n → Fit (sendOne m f n)
 fit-send m f n g p t =
     let a : Fair f = fair f (p .fated) in
     let l : length (insertAll (copies m (n .seq) (dues f)) (n .pending)) ≡ length (dues f) + length (n .pending) =
@@ -175,7 +175,7 @@ fit-send m f n g p t =
       delayed = omega (arith, a .delayed, t .delayed);
     }
 
-fit-take : (now : ℕ) (n : Network) → Fit n → Fit (takeDue now n)
+fit-take : (now : ℕ) (n : Plain) → Fit n → Fit (takeDue now n)
 fit-take now n t =
     record {
       chances = t .chances;
@@ -189,7 +189,7 @@ fit-take now n t =
       delayed = t .delayed;
     }
 
-fit-set : (o : Options) (n : Network) → goodOptions o ≡ true → Fit n → Fit (setOptions o n)
+fit-set : (o : Options) (n : Plain) → goodOptions o ≡ true → Fit n → Fit (setOptions o n)
 fit-set o n p t =
     record {
       chances = p;
@@ -203,10 +203,10 @@ fit-set o n p t =
       delayed = t .delayed;
     }
 
-pub fit-effect : (fate : Draws) (c : Plain) (n : Network) → Good n → Passed fate c n → Fit n → Fit (effect fate c n)
+pub fit-effect : (fate : Draws) (c : Change) (n : Plain) → Good n → Passed fate c n → Fit n → Fit (effect fate c n)
 unfolding effect
 fit-effect fate (send m draws extras) n g p t = fit-send m (fate (n .options) (m .now) (m .kind) draws extras) n g p t
-fit-effect fate (takes now room) n g p t = fit-take now n t
+fit-effect fate (collect now room) n g p t = fit-take now n t
 fit-effect fate (choose o) n g p t = fit-set o n p t
 
 pub fit-fresh : (o : Options) → goodOptions o ≡ true → Fit (fresh o)
@@ -223,7 +223,7 @@ fit-fresh o h =
       delayed = omega arith;
     }
 
-pub fit-replay : (fate : Draws) (o : Options) (st : List Plain) → goodOptions o ≡ true → Sound fate o st → Fit (replay fate o st)
+pub fit-replay : (fate : Draws) (o : Options) (st : List Change) → goodOptions o ≡ true → Sound fate o st → Fit (replay fate o st)
 unfolding replay
 fit-replay fate o [] h s = fit-fresh o h
 fit-replay fate o (c ∷ st) h s = fit-effect fate c (replay fate o st) (good-replay fate o st) (s .0) (fit-replay fate o st h (s .1))
@@ -251,10 +251,10 @@ rises (x ∷ xs) a b =
       rises xs (a .1) (b .1),
     )
 
-pub rises-of : (n : Network) → Good n → Fit n → rising (n .pending) ≡ true
+pub rises-of : (n : Plain) → Good n → Fit n → rising (n .pending) ≡ true
 rises-of n g t = rises (n .pending) (g .ordered) (t .apart)
 
-pub good-counts : (n : Network) → Good n → Fit n
+pub good-counts : (n : Plain) → Good n → Fit n
     → goodCounts (length (n .pending)) (n .seq) (n .sent) (n .delivered) (n .lost) (n .replayed) (n .delayed) ≡ true
 unfolding goodCounts
 good-counts n g t =
@@ -268,7 +268,7 @@ good-counts n g t =
       le-leb (n .delayed) (n .seq) (t .delayed),
     )
 
-pub well-formed : (n : Network) → Good n → Fit n → wellFormed n ≡ true
+pub well-formed : (n : Plain) → Good n → Fit n → wellFormed n ≡ true
 unfolding wellFormed
 well-formed n g t =
     rw (
@@ -279,6 +279,6 @@ well-formed n g t =
       good-counts n g t,
     )
 
-pub well-formed-replay : (fate : Draws) (o : Options) (st : List Plain) → goodOptions o ≡ true → Sound fate o st
+pub well-formed-replay : (fate : Draws) (o : Options) (st : List Change) → goodOptions o ≡ true → Sound fate o st
     → wellFormed (replay fate o st) ≡ true
 well-formed-replay fate o st h s = well-formed (replay fate o st) (good-replay fate o st) (fit-replay fate o st h s)

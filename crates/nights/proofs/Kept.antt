@@ -9,8 +9,8 @@ use lib.Dec.{leb, eqb}
 use lib.ListN.{length}
 use Rattle.basis.proofs.Laws.{both}
 use Rattle.nights.specs.Record.{Record}
-use Rattle.nights.specs.Net.{capacity, sentLimit, lastKind, lastSort, Options, Network, fresh, every, Draws, Plain, effect, goodOptions, goodRecord, earlier, ahead, rising, goodCounts, wellFormed}
-use Rattle.nights.specs.Journal.{done, verdict, tests}
+use Rattle.nights.specs.Net.{capacity, sentLimit, lastKind, lastSort, Options, Plain, fresh, every, Draws, Change, effect, goodOptions, goodRecord, earlier, ahead, rising, goodCounts, wellFormed}
+use Rattle.nights.specs.Tests.{done, verdict, tests}
 use Rattle.nights.proofs.Order.{Before, All, Ordered, Unlike, Apart, earlier-true, all-map}
 use Rattle.nights.proofs.Good.{Good, Fine, Fit, good-effect, fit-effect, good-fresh, fit-fresh, well-formed}
 use Rattle.nights.proofs.Run.{passed-tests}
@@ -96,7 +96,7 @@ counts p q s d l r y e =
 
 -- ---- a well-formed network
 
-module _ (n : Network) (e : wellFormed n ≡ true) where
+module _ (n : Plain) (e : wellFormed n ≡ true) where
   parts : (goodOptions (n .options) ≡ true)
       × (every (goodRecord (n .seq)) (n .pending) ≡ true)
       × (rising (n .pending) ≡ true)
@@ -145,7 +145,7 @@ module _ (n : Network) (e : wellFormed n ≡ true) where
       }
 
 -- every accepted call keeps a network well formed, and a fresh one of good options is
-pub call-keeps : (fate : Draws) (c : Plain) (n : Network) → wellFormed n ≡ true → verdict (tests fate c n []) ≡ done
+pub call-keeps : (fate : Draws) (c : Change) (n : Plain) → wellFormed n ≡ true → verdict (tests fate c n []) ≡ done
     → wellFormed (effect fate c n) ≡ true
 call-keeps fate c n e a =
     well-formed (effect fate c n) (good-effect fate c n (good n e))

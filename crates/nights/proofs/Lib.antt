@@ -1,4 +1,5 @@
 -- Laws of the plain form, and the theorem of the journal.
+pub mod Failing
 pub mod Order
 pub mod Good
 pub mod Fold

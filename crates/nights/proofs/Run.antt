@@ -11,17 +11,18 @@ use lib.ListN.{length, take, drop, length-append, length-drop}
 use lib.Seq.{take-at, drop-at, drop-append-add, drop-append-le}
 use Rattle.basis.proofs.Laws.{both}
 use Rattle.chance.specs.Probability.{goodWord}
-use Rattle.nights.specs.Record.{Record, wordsOf}
-use Rattle.nights.specs.Net.{Options, Network, keep, Fate, dues, Draws, Letter, Plain, send, take as takes, choose, isDue, effect, goodOptions, wellFormed}
-use Rattle.nights.specs.Journal.{Answer, done, refused, Call, plain, rewind, mark, State, Step, held, used, logged, goodHeader, undoWords, undone, undoAll, Test, verdict, sendTests, tests, journalTests, settle, after, doPlain, rewound, doRewind, doMark, step}
+use Rattle.nights.specs.Record.{Record, recordWords}
+use Rattle.nights.specs.Net.{Options, Plain, keep, Fate, dues, Draws, Letter, Change, send, collect, choose, isDue, effect, goodOptions, wellFormed}
+use Rattle.nights.specs.Tests.{Answer, done, refused, Test, verdict, sendTests, tests, ifDone}
+use Rattle.nights.specs.Journal.{Call, change, rewind, mark, State, Step, held, used, logged, goodHeader, undoWords, undone, undoAll, journalTests, journaled, doChange, rewound, doRewind, doMark, step}
 use Rattle.nights.specs.Rule.{start, run, log, strike, struck, reachBy, reached, reach, ran, stack, stands, replay, flat, recorded, Counted}
 use Rattle.nights.proofs.Good.{PassedSend, Passed, Sound, well-formed-replay}
 use Rattle.nights.proofs.Fold.{sortedCopies, pending-sorted, counted}
 use Rattle.nights.proofs.Undo.{undo-many}
 
 -- WHAT A STATE HOLDS, where `st` stands (the newest first), of it `kept` is out of a rewind's reach, and the journal has `size` words
-pub record Follows (fate : Draws) (o : Options) (size : ℕ) (s : State) (st kept : List Plain) (reach : ℕ) : Type 0 where
-  pub recent : List Plain
+pub record Follows (fate : Draws) (o : Options) (size : ℕ) (s : State) (st kept : List Change) (reach : ℕ) : Type 0 where
+  pub recent : List Change
   pub rest : List ℕ
   pub parts : st ≡ recent ++ kept
   pub far : length recent ≡ reach
@@ -31,26 +32,26 @@ pub record Follows (fate : Draws) (o : Options) (size : ℕ) (s : State) (st kep
   pub sound : Sound fate o st
 
 -- the same a step on: what was out of reach stays out of reach
-pub record Next (fate : Draws) (o : Options) (size : ℕ) (s : State) (st kept : List Plain) (reach : ℕ) : Type 0 where
-  pub kept' : List Plain
-  pub more : List Plain
+pub record Next (fate : Draws) (o : Options) (size : ℕ) (s : State) (st kept : List Change) (reach : ℕ) : Type 0 where
+  pub kept' : List Change
+  pub more : List Change
   pub grows : kept' ≡ more ++ kept
   pub follows : Follows fate o size s st kept' reach
 
 module _ (fate : Draws) (o : Options) where
-  same : {size : ℕ} {s : State} {st kept : List Plain} {r : ℕ} → Follows fate o size s st kept r → Next fate o size s st kept r
+  same : {size : ℕ} {s : State} {st kept : List Change} {r : ℕ} → Follows fate o size s st kept r → Next fate o size s st kept r
   same {kept = kept} f = record { kept' = kept; more = []; grows = refl; follows = f }
 
   -- every record has two words at least
-  two-words : (c : Plain) (n : Network) → 2 ≤ length (undoWords c n)
+  two-words : (c : Change) (n : Plain) → 2 ≤ length (undoWords c n)
   unfolding undoWords
   two-words (send m draws extras) n = omega arith
-  two-words (takes now room) n =
+  two-words (collect now room) n =
       let rs : List Record = keep (isDue now) (n .pending) in
-      omega (arith, length-append (wordsOf rs) (2 ∷ (8 * length rs + 2) ∷ []))
+      omega (arith, length-append (recordWords rs) (2 ∷ (8 * length rs + 2) ∷ []))
   two-words (choose p) n = omega arith
 
-  long : (kept recent : List Plain) → 2 * length recent ≤ length (flat fate o kept recent)
+  long : (kept recent : List Change) → 2 * length recent ≤ length (flat fate o kept recent)
   unfolding flat
   long kept [] = omega arith
   long kept (c ∷ recent) =
@@ -68,7 +69,7 @@ module _ (fate : Draws) (o : Options) where
         le-leb (2 * c) (suc (suc (length f)) - 2) (omega arith),
       )
 
-  module _ (size : ℕ) (s : State) (st kept : List Plain) (r : ℕ) (f : Follows fate o size s st kept r) where
+  module _ (size : ℕ) (s : State) (st kept : List Change) (r : ℕ) (f : Follows fate o size s st kept r) where
     good-header : goodHeader (s .words) ≡ true
     good-header = rw (f .words) (good-words (length (f .recent)) (flat fate o kept (f .recent)) (f .rest) (long kept (f .recent)))
 
@@ -85,7 +86,7 @@ passed t ts e = go (t .passes) refl e
     go true p q = (p, q)
     go false p q = let z : _≡_ {A = ℕ} 0 1 = cc in absurd (omega arith)
 
-passed-send : (m : Letter) (f : Fate) (n : Network) (more : List Test) → verdict (sendTests m f n more) ≡ done
+passed-send : (m : Letter) (f : Fate) (n : Plain) (more : List Test) → verdict (sendTests m f n more) ≡ done
     → PassedSend m f n × (verdict more ≡ done)
 passed-send m f n more e =
     let a = passed _ _ e in
@@ -107,11 +108,11 @@ passed-choose : (o : Options) → goodWord (o .loss) ≡ true → goodWord (o .r
 unfolding goodOptions
 passed-choose o a b c = rw (a, b, c)
 
-pub passed-tests : (fate : Draws) (c : Plain) (n : Network) (more : List Test) → verdict (tests fate c n more) ≡ done
+pub passed-tests : (fate : Draws) (c : Change) (n : Plain) (more : List Test) → verdict (tests fate c n more) ≡ done
     → Passed fate c n × (verdict more ≡ done)
 unfolding tests
 passed-tests fate (send m draws extras) n more e = passed-send m (fate (n .options) (m .now) (m .kind) draws extras) n more e
-passed-tests fate (takes now room) n more e = (tt, passed _ _ e .1)
+passed-tests fate (collect now room) n more e = (tt, passed _ _ e .1)
 passed-tests fate (choose p) n more e =
     let a = passed _ _ e in
     let b = passed _ _ (a .1) in
@@ -130,12 +131,12 @@ logged-is c f rest u =
     let b : suc (suc (length f)) + length u ≡ suc (suc (length (f ++ u))) = omega (arith, length-append f u) in
     rw (add-one c, a, take-at f rest (length f) refl, drop-append-add f rest (length u), length-append f u, append-assoc f u (drop (length u) rest))
 
-module _ (fate : Draws) (o : Options) (good : goodOptions o ≡ true) (size : ℕ) (s : State) (st kept : List Plain) (r : ℕ) (f : Follows fate o size s st kept r) (c : Plain) where
+module _ (fate : Draws) (o : Options) (good : goodOptions o ≡ true) (size : ℕ) (s : State) (st kept : List Change) (r : ℕ) (f : Follows fate o size s st kept r) (c : Change) where
   accepted : Passed fate c (s .net) → used (s .words) + length (undoWords c (s .net)) ≤ length (s .words)
-      → Follows fate o size (after fate c s) (c ∷ st) kept (r + 1)
+      → Follows fate o size (journaled fate c s) (c ∷ st) kept (r + 1)
   unfolding replay flat
   accepted p h =
-      let e : replay fate o st ≡ replay fate o (f .recent ++ kept) = ap (λ (l : List Plain). replay fate o l) (f .parts) in
+      let e : replay fate o st ≡ replay fate o (f .recent ++ kept) = ap (λ (l : List Change). replay fate o l) (f .parts) in
       let n : s .net ≡ replay fate o (f .recent ++ kept) = f .net ∙ e in
       let u : List ℕ = undoWords c (replay fate o (f .recent ++ kept)) in
       let front : List ℕ = flat fate o kept (f .recent) in
@@ -143,9 +144,9 @@ module _ (fate : Draws) (o : Options) (good : goodOptions o ≡ true) (size : �
       record {
         recent = c ∷ f .recent;
         rest = drop (length u) (f .rest);
-        parts = ap (λ (l : List Plain). c ∷ l) (f .parts);
+        parts = ap (λ (l : List Change). c ∷ l) (f .parts);
         far = omega (arith, f .far);
-        net = ap (λ (x : Network). effect fate c x) (f .net);
+        net = ap (λ (x : Plain). effect fate c x) (f .net);
         words =
             rw (n, f .words)
             (logged-is (length (f .recent)) front (f .rest) u);
@@ -153,9 +154,9 @@ module _ (fate : Draws) (o : Options) (good : goodOptions o ≡ true) (size : �
         sound = (rw (f .net) at p, f .sound);
       }
 
-  plain-next : Next fate o size (doPlain fate c s .state) (strike st (plain c) (doPlain fate c s .answer)) kept (reachBy r (plain c) (doPlain fate c s .answer))
-  unfolding doPlain strike reachBy settle
-  plain-next = go (verdict (first ∷ ts)) refl
+  change-next : Next fate o size (doChange fate c s .state) (strike st (change c) (doChange fate c s .answer)) kept (reachBy r (change c) (doChange fate c s .answer))
+  unfolding doChange strike reachBy ifDone
+  change-next = go (verdict (first ∷ ts)) refl
     where
       more : List Test
       more = journalTests (s .words) (length (undoWords c (s .net)))
@@ -167,15 +168,14 @@ module _ (fate : Draws) (o : Options) (good : goodOptions o ≡ true) (size : �
       first = record { passes = wellFormed (s .net); number = 23 }
 
       go : (a : Answer) → verdict (first ∷ ts) ≡ a
-          → Next fate o size (settle a (after fate c s) s .state) (strike st (plain c) (settle a (after fate c s) s .answer)) kept
-          (reachBy r (plain c) (settle a (after fate c s) s .answer))
+          → Next fate o size (ifDone a (journaled fate c s) s) (strike st (change c) a) kept (reachBy r (change c) a)
       go done e =
           let p = passed-tests fate c (s .net) more (passed first ts e .1) in
           same fate o (accepted (p .0) (passed-journal (s .words) (length (undoWords c (s .net))) (p .1)))
       go (refused k) e = same fate o f
 
 -- A MARK
-module _ (fate : Draws) (o : Options) (good : goodOptions o ≡ true) (size : ℕ) (s : State) (st kept : List Plain) (r : ℕ) (f : Follows fate o size s st kept r) where
+module _ (fate : Draws) (o : Options) (good : goodOptions o ≡ true) (size : ℕ) (s : State) (st kept : List Change) (r : ℕ) (f : Follows fate o size s st kept r) where
   marked : Follows fate o size (record { net = s .net; words = 0 ∷ 2 ∷ drop 2 (s .words) }) st st 0
   unfolding flat
   marked =
@@ -203,7 +203,7 @@ module _ (fate : Draws) (o : Options) (good : goodOptions o ≡ true) (size : �
 -- A REWIND
 
 -- the words of the calls that stay are a front of all
-flat-front : (fate : Draws) (o : Options) (kept : List Plain) (k : ℕ) (recent : List Plain)
+flat-front : (fate : Draws) (o : Options) (kept : List Change) (k : ℕ) (recent : List Change)
     → (x : List ℕ) × (flat fate o kept recent ≡ flat fate o kept (drop k recent) ++ x)
 unfolding flat
 flat-front fate o kept zero recent = ([], sym (append-nil (flat fate o kept recent)))
@@ -213,12 +213,12 @@ flat-front fate o kept (suc k) (c ∷ recent) =
     let u : List ℕ = undoWords c (replay fate o (recent ++ kept)) in
     (p .0 ++ u, ap (λ (l : List ℕ). l ++ u) (p .1) ∙ append-assoc (flat fate o kept (drop k recent)) (p .0) u)
 
-sound-drop : (fate : Draws) (o : Options) (k : ℕ) (st : List Plain) → Sound fate o st → Sound fate o (drop k st)
+sound-drop : (fate : Draws) (o : Options) (k : ℕ) (st : List Change) → Sound fate o st → Sound fate o (drop k st)
 sound-drop fate o zero st s = s
 sound-drop fate o (suc k) [] s = tt
 sound-drop fate o (suc k) (c ∷ st) s = sound-drop fate o k st (s .1)
 
-module _ (fate : Draws) (o : Options) (good : goodOptions o ≡ true) (size : ℕ) (s : State) (st kept : List Plain) (r : ℕ) (f : Follows fate o size s st kept r) (k : ℕ) where
+module _ (fate : Draws) (o : Options) (good : goodOptions o ≡ true) (size : ℕ) (s : State) (st kept : List Change) (r : ℕ) (f : Follows fate o size s st kept r) (k : ℕ) where
   abbrev place : ℕ
   place = suc (suc (length (flat fate o kept (drop k (f .recent)))))
 
@@ -233,13 +233,13 @@ module _ (fate : Draws) (o : Options) (good : goodOptions o ≡ true) (size : �
   rewind-is h =
       let w : List ℕ = s .words in
       let front : List ℕ = flat fate o kept (f .recent) in
-      let d : drop k st ≡ drop k (f .recent) ++ kept = ap (λ (l : List Plain). drop k l) (f .parts) ∙ drop-append-le k (f .recent) kept h in
-      let n : s .net ≡ replay fate o (f .recent ++ kept) = f .net ∙ ap (λ (l : List Plain). replay fate o l) (f .parts) in
+      let d : drop k st ≡ drop k (f .recent) ++ kept = ap (λ (l : List Change). drop k l) (f .parts) ∙ drop-append-le k (f .recent) kept h in
+      let n : s .net ≡ replay fate o (f .recent ++ kept) = f .net ∙ ap (λ (l : List Change). replay fate o l) (f .parts) in
       let u : used w ≡ suc (suc (length front)) = rw (f .words) in
       let b : leb k (held w) ≡ true = le-leb k (held w) (omega (arith, held-is fate o size s st kept r f)) in
       let m : undoAll k (s .net) w (used w) ≡ undone (replay fate o (drop k st)) place =
       rw (u, n, f .words, d)
-      (undo-many fate o kept (length (f .recent)) (suc (suc (length front))) good k (f .recent) (f .rest) h (subst (λ (l : List Plain). Sound fate o l) (f .parts) (f .sound))) in
+      (undo-many fate o kept (length (f .recent)) (suc (suc (length front))) good k (f .recent) (f .rest) h (subst (λ (l : List Change). Sound fate o l) (f .parts) (f .sound))) in
       rw (well, good-header fate o size s st kept r f, b, m)
 
   far-is : length (f .recent) < k → doRewind k s ≡ record { state = s; answer = refused 33 }
@@ -258,7 +258,7 @@ module _ (fate : Draws) (o : Options) (good : goodOptions o ≡ true) (size : �
       record {
         recent = drop k (f .recent);
         rest = p .0 ++ f .rest;
-        parts = ap (λ (l : List Plain). drop k l) (f .parts) ∙ drop-append-le k (f .recent) kept h;
+        parts = ap (λ (l : List Change). drop k l) (f .parts) ∙ drop-append-le k (f .recent) kept h;
         far = omega (arith, length-drop k (f .recent), f .far);
         net = refl;
         words = rw (c, b);
@@ -277,14 +277,14 @@ module _ (fate : Draws) (o : Options) (good : goodOptions o ≡ true) (size : �
 
 -- ANY CALL, ANY CALLS
 module _ (fate : Draws) (o : Options) (good : goodOptions o ≡ true) (size : ℕ) where
-  step-next : (c : Call) (s : State) (st kept : List Plain) (r : ℕ) → Follows fate o size s st kept r
+  step-next : (c : Call) (s : State) (st kept : List Change) (r : ℕ) → Follows fate o size s st kept r
       → Next fate o size (step fate s c .state) (strike st c (step fate s c .answer)) kept (reachBy r c (step fate s c .answer))
   unfolding step
-  step-next (plain c) s st kept r f = plain-next fate o good size s st kept r f c
+  step-next (change c) s st kept r f = change-next fate o good size s st kept r f c
   step-next (rewind k) s st kept r f = rewind-next fate o good size s st kept r f k
   step-next mark s st kept r f = mark-next fate o good size s st kept r f
 
-  run-next : (cs : List Call) (s : State) (st kept : List Plain) (r : ℕ) → Follows fate o size s st kept r
+  run-next : (cs : List Call) (s : State) (st kept : List Change) (r : ℕ) → Follows fate o size s st kept r
       → Next fate o size (run fate s cs) (struck st (log fate s cs)) kept (reached r (log fate s cs))
   unfolding run log struck reached
   run-next [] s st kept r f = same fate o f
@@ -294,7 +294,7 @@ module _ (fate : Draws) (o : Options) (good : goodOptions o ≡ true) (size : �
       record {
         kept' = b .kept';
         more = b .more ++ a .more;
-        grows = b .grows ∙ (ap (λ (l : List Plain). b .more ++ l) (a .grows) ∙ sym (append-assoc (b .more) (a .more) kept));
+        grows = b .grows ∙ (ap (λ (l : List Change). b .more ++ l) (a .grows) ∙ sym (append-assoc (b .more) (a .more) kept));
         follows = b .follows;
       }
 
@@ -303,7 +303,7 @@ unfolding replay flat
 started fate o rest =
     record { recent = []; rest = rest; parts = refl; far = refl; net = refl; words = refl; whole = omega arith; sound = tt }
 
-log-append : (fate : Draws) (a b : List Call) (s : State) (st : List Plain)
+log-append : (fate : Draws) (a b : List Call) (s : State) (st : List Change)
     → struck st (log fate s (a ++ b)) ≡ struck (struck st (log fate s a)) (log fate (run fate s a) b)
 unfolding run log struck
 log-append fate [] b s st = refl
@@ -320,8 +320,8 @@ module _ (fate : Draws) (o : Options) (good : goodOptions o ≡ true) (rest : Li
       → (others : List ℕ) × (ran fate o rest cs .words ≡ r ∷ suc (suc (length written)) ∷ (written ++ others))
   the-journal-holds cs r written e h =
       let f = all-follows cs .follows in
-      let st : List Plain = stack fate o rest cs in
-      let kept : List Plain = all-follows cs .kept' in
+      let st : List Change = stack fate o rest cs in
+      let kept : List Change = all-follows cs .kept' in
       let n : length (f .recent) ≡ r = omega (arith, f .far) in
       let a : take r st ≡ f .recent = rw (f .parts) (take-at (f .recent) kept r n) in
       let b : drop r st ≡ kept = rw (f .parts) (drop-at (f .recent) kept r n) in
@@ -367,17 +367,17 @@ module _ (fate : Draws) (o : Options) (good : goodOptions o ≡ true) (rest : Li
 
   -- a mark cannot be rewound past: what stood at the mark stands for good
   pub mark-holds : (before later : List Call)
-      → (more : List Plain) × (stands fate o rest (before ++ (mark ∷ later)) ≡ stands fate o rest before ++ more)
+      → (more : List Change) × (stands fate o rest (before ++ (mark ∷ later)) ≡ stands fate o rest before ++ more)
   unfolding log struck strike step
   mark-holds before later =
       let x = all-follows before in
       let s : State = ran fate o rest before in
-      let st : List Plain = stack fate o rest before in
+      let st : List Change = stack fate o rest before in
       let e = mark-is fate o good (length rest + 2) s st (x .kept') (reach fate o rest before) (x .follows) in
       let y =
       run-next fate o good (length rest + 2) later (record { net = s .net; words = 0 ∷ 2 ∷ drop 2 (s .words) }) st st 0
       (marked fate o good (length rest + 2) s st (x .kept') (reach fate o rest before) (x .follows)) in
       let z : stack fate o rest (before ++ (mark ∷ later)) ≡ (y .follows .recent ++ y .more) ++ st =
       log-append fate before (mark ∷ later) (start o rest) []
-      ∙ rw e (y .follows .parts ∙ (ap (λ (l : List Plain). y .follows .recent ++ l) (y .grows) ∙ sym (append-assoc (y .follows .recent) (y .more) st))) in
-      (reverse (y .follows .recent ++ y .more), ap (λ (l : List Plain). reverse l) z ∙ reverse-append (y .follows .recent ++ y .more) st)
+      ∙ rw e (y .follows .parts ∙ (ap (λ (l : List Change). y .follows .recent ++ l) (y .grows) ∙ sym (append-assoc (y .follows .recent) (y .more) st))) in
+      (reverse (y .follows .recent ++ y .more), ap (λ (l : List Change). reverse l) z ∙ reverse-append (y .follows .recent ++ y .more) st)

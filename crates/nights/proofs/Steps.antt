@@ -7,8 +7,9 @@ use mathlib.Core.Bool.{Bool, true, false, cond}
 use native.Mathlib.Omega.{arith}
 use lib.Dec.{leb}
 use lib.ListN.{length}
-use Rattle.nights.specs.Net.{Network, Draws, Plain, effect, wellFormed}
-use Rattle.nights.specs.Journal.{Answer, done, refused, Call, plain, rewind, mark, State, Step, held, used, header, goodHeader, undoWords, Undone, misfit, undone, undoOne, checked, onward, undoAll, Test, verdict, tests, journalTests, settle, after, doPlain, rewound, doRewind, doMark, step}
+use Rattle.nights.specs.Net.{Plain, Draws, Change, effect, wellFormed}
+use Rattle.nights.specs.Tests.{Answer, done, refused, Test, verdict, tests, ifDone}
+use Rattle.nights.specs.Journal.{Call, change, rewind, mark, State, Step, held, used, header, goodHeader, undoWords, Undone, misfit, undone, undoOne, checked, further, undoAll, journalTests, journaled, doChange, rewound, doRewind, doMark, step}
 use Rattle.nights.proofs.Good.{well-formed, good-effect, fit-effect}
 use Rattle.nights.proofs.Run.{passed-tests}
 use Rattle.nights.proofs.Kept.{good, fit}
@@ -19,10 +20,10 @@ unlike k e = let z : _≡_ {A = ℕ} 0 1 = cc in absurd (omega arith)
 -- ---- a step that is refused
 
 module _ (s : State) (k : ℕ) where
-  settle-stays : (a : Answer) (new : State) → settle a new s .answer ≡ refused k → settle a new s .state ≡ s
-  unfolding settle
-  settle-stays done new e = unlike k e
-  settle-stays (refused j) new e = refl
+  change-stays : (a : Answer) (new : State) → a ≡ refused k → ifDone a new s ≡ s
+  unfolding ifDone
+  change-stays done new e = unlike k e
+  change-stays (refused j) new e = refl
 
   rewound-stays : (j : ℕ) (u : Undone) → rewound j s u .answer ≡ refused k → rewound j s u .state ≡ s
   unfolding rewound
@@ -60,8 +61,8 @@ module _ (s : State) (k : ℕ) where
       go false e = refl
 
 pub refused-stays : (fate : Draws) (s : State) (c : Call) (k : ℕ) → step fate s c .answer ≡ refused k → step fate s c .state ≡ s
-unfolding step doPlain
-refused-stays fate s (plain c) k e = settle-stays s k _ _ e
+unfolding step doChange
+refused-stays fate s (change c) k e = change-stays s k _ _ e
 refused-stays fate s (rewind j) k e = rewind-stays s k j e
 refused-stays fate s mark k e = mark-stays s k e
 
@@ -72,17 +73,17 @@ unfoldable Formed : Undone → Type 0
 Formed misfit = Unit {0}
 Formed (undone n e) = wellFormed n ≡ true
 
-onward-formed : (u : Undone) (f : Network → ℕ → Undone) → ((n : Network) (e : ℕ) → wellFormed n ≡ true → Formed (f n e))
-    → Formed (onward (checked u) f)
-unfolding onward checked Formed
+onward-formed : (u : Undone) (f : Plain → ℕ → Undone) → ((n : Plain) (e : ℕ) → wellFormed n ≡ true → Formed (f n e))
+    → Formed (further (checked u) f)
+unfolding further checked Formed
 onward-formed misfit f h = tt
 onward-formed (undone n e) f h = go (wellFormed n) refl
   where
-    go : (b : Bool) → wellFormed n ≡ b → Formed (onward (cond b (undone n e) misfit) f)
+    go : (b : Bool) → wellFormed n ≡ b → Formed (further (cond b (undone n e) misfit) f)
     go true w = h n e w
     go false w = tt
 
-all-formed : (k : ℕ) (n : Network) (w : List ℕ) (e : ℕ) → wellFormed n ≡ true → Formed (undoAll k n w e)
+all-formed : (k : ℕ) (n : Plain) (w : List ℕ) (e : ℕ) → wellFormed n ≡ true → Formed (undoAll k n w e)
 unfolding undoAll Formed
 all-formed zero n w e h = h
 all-formed (suc k) n w e h = onward-formed (undoOne n w e) (λ m b. undoAll k m w b) (λ m b g. all-formed k m w b g)
@@ -92,9 +93,9 @@ unfolding verdict
 opened e ts = rw e
 
 module _ (fate : Draws) (s : State) (f : wellFormed (s .net) ≡ true) where
-  plain-keeps : (c : Plain) → wellFormed (doPlain fate c s .state .net) ≡ true
-  unfolding doPlain settle
-  plain-keeps c = go (verdict (first ∷ tests fate c (s .net) more)) refl
+  change-keeps : (c : Change) → wellFormed (doChange fate c s .state .net) ≡ true
+  unfolding doChange ifDone
+  change-keeps c = go (verdict (first ∷ tests fate c (s .net) more)) refl
     where
       more : List Test
       more = journalTests (s .words) (length (undoWords c (s .net)))
@@ -102,7 +103,7 @@ module _ (fate : Draws) (s : State) (f : wellFormed (s .net) ≡ true) where
       first : Test
       first = record { passes = wellFormed (s .net); number = 23 }
 
-      go : (a : Answer) → verdict (first ∷ tests fate c (s .net) more) ≡ a → wellFormed (settle a (after fate c s) s .state .net) ≡ true
+      go : (a : Answer) → verdict (first ∷ tests fate c (s .net) more) ≡ a → wellFormed (ifDone a (journaled fate c s) s .net) ≡ true
       go done e =
           well-formed (effect fate c (s .net)) (good-effect fate c (s .net) (good (s .net) f))
           (fit-effect fate c (s .net) (good (s .net) f) (passed-tests fate c (s .net) more (rw (opened f (tests fate c (s .net) more)) at e) .0) (fit (s .net) f))
@@ -146,6 +147,6 @@ module _ (fate : Draws) (s : State) (f : wellFormed (s .net) ≡ true) where
 
   pub step-keeps : (c : Call) → wellFormed (step fate s c .state .net) ≡ true
   unfolding step
-  step-keeps (plain c) = plain-keeps c
+  step-keeps (change c) = change-keeps c
   step-keeps (rewind k) = rewind-keeps k
   step-keeps mark = mark-keeps

@@ -8,10 +8,10 @@ use borrow.Author.Tests.{le-leb, lt-leb, eq-eqb}
 use lib.Dec.{leb, eqb}
 use lib.ListN.{length, getD, drop, length-append}
 use lib.Seq.{getD-append-add}
-use Rattle.nights.specs.Record.{Record, words, wordsOf, recordAt, recs}
+use Rattle.nights.specs.Record.{Record, words, recordWords, recordAt, recs}
 use Rattle.basis.specs.Basis.{bit}
-use Rattle.nights.specs.Net.{Options, Network, keep, insertAll, Fate, dues, Draws, Letter, copies, Plain, send, take as takes, choose, isDue, isLater, sendOne, takeDue, setOptions, effect, goodOptions}
-use Rattle.nights.specs.Journal.{undoWords, undone, unsend, untake, undoAs, undoOne, checked, onward, undoAll}
+use Rattle.nights.specs.Net.{Options, Plain, keep, insertAll, Fate, dues, Draws, Letter, copies, Change, send, collect, choose, isDue, isLater, sendOne, takeDue, setOptions, effect, goodOptions}
+use Rattle.nights.specs.Journal.{undoWords, undone, unsend, untake, undoAs, undoOne, checked, further, undoAll}
 use Rattle.nights.specs.Rule.{replay, flat}
 use Rattle.nights.proofs.Order.{All, all-map, length-split, keep-all, rejoin, unseen-all}
 use Rattle.nights.proofs.Good.{Good, good-replay, copies-above, Sound, fit-replay, well-formed-replay}
@@ -24,10 +24,10 @@ read w pre tail b i e h =
 read-first : (w pre tail : List ℕ) (b : ℕ) → w ≡ pre ++ tail → length pre ≡ b → getD w b 0 ≡ getD tail 0 0
 read-first w pre tail b e h = let z : b ≡ b + 0 = omega arith in ap (λ (x : ℕ). getD w x 0) z ∙ read w pre tail b 0 e h
 
-pub length-wordsOf : (rs : List Record) → length (wordsOf rs) ≡ 8 * length rs
-unfolding wordsOf
-length-wordsOf [] = refl
-length-wordsOf (x ∷ xs) = let h = length-wordsOf xs in omega arith
+pub length-recordWords : (rs : List Record) → length (recordWords rs) ≡ 8 * length rs
+unfolding recordWords
+length-recordWords [] = refl
+length-recordWords (x ∷ xs) = let h = length-recordWords xs in omega arith
 
 record-read : (x : Record) (w pre tail : List ℕ) (b : ℕ) → w ≡ pre ++ (words x ++ tail) → length pre ≡ b → recordAt w b ≡ x
 record-read x w pre tail b e h =
@@ -42,21 +42,21 @@ record-read x w pre tail b e h =
       read w pre (words x ++ tail) b 7 e h,
     )
 
-pub recs-read : (rs : List Record) (w pre tail : List ℕ) (b : ℕ) → w ≡ pre ++ (wordsOf rs ++ tail) → length pre ≡ b → recs w b (length rs) ≡ rs
-unfolding recs wordsOf
+pub recs-read : (rs : List Record) (w pre tail : List ℕ) (b : ℕ) → w ≡ pre ++ (recordWords rs ++ tail) → length pre ≡ b → recs w b (length rs) ≡ rs
+unfolding recs recordWords
 recs-read [] w pre tail b e h = refl
 recs-read (x ∷ xs) w pre tail b e h =
-    let f : w ≡ pre ++ (words x ++ (wordsOf xs ++ tail)) = e in
-    let g : w ≡ (pre ++ words x) ++ (wordsOf xs ++ tail) = f ∙ sym (append-assoc pre (words x) (wordsOf xs ++ tail)) in
-    rw (record-read x w pre (wordsOf xs ++ tail) b f h, recs-read xs w (pre ++ words x) tail (b + 8) g (omega (arith, length-append pre (words x))))
+    let f : w ≡ pre ++ (words x ++ (recordWords xs ++ tail)) = e in
+    let g : w ≡ (pre ++ words x) ++ (recordWords xs ++ tail) = f ∙ sym (append-assoc pre (words x) (recordWords xs ++ tail)) in
+    rw (record-read x w pre (recordWords xs ++ tail) b f h, recs-read xs w (pre ++ words x) tail (b + 8) g (omega (arith, length-append pre (words x))))
 
 -- the sort and the length are the last two words
-undo-at : (n : Network) (w : List ℕ) (e k z b : ℕ) → getD w (e - 2) 0 ≡ k → getD w (e - 1) 0 ≡ z → e - z ≡ b → undoOne n w e ≡ undoAs k z b n w e
+undo-at : (n : Plain) (w : List ℕ) (e k z b : ℕ) → getD w (e - 2) 0 ≡ k → getD w (e - 1) 0 ≡ z → e - z ≡ b → undoOne n w e ≡ undoAs k z b n w e
 unfolding undoOne
 undo-at n w e k z b p q r = rw (p, q, r)
 
 -- A SEND
-unsend-is : (m : Letter) (f : Fate) (n : Network) → Good n → unsend (n .seq) (n .lost) (n .replayed) (n .delayed) (sendOne m f n) ≡ n
+unsend-is : (m : Letter) (f : Fate) (n : Plain) → Good n → unsend (n .seq) (n .lost) (n .replayed) (n .delayed) (sendOne m f n) ≡ n
 unsend-is m f n g =
     let new : List Record = copies m (n .seq) (dues f) in
     let old : Record → Bool = λ (x : Record). leb (x .seq) (n .seq) in
@@ -68,7 +68,7 @@ unsend-is m f n g =
     let s : n .sent + 1 - 1 ≡ n .sent = omega arith in
     rw (p, s)
 
-undo-send : (m : Letter) (f : Fate) (n : Network) (w pre rest : List ℕ) (b e : ℕ) → Good n
+undo-send : (m : Letter) (f : Fate) (n : Plain) (w pre rest : List ℕ) (b e : ℕ) → Good n
     → w ≡ pre ++ (n .seq ∷ n .lost ∷ n .replayed ∷ n .delayed ∷ 1 ∷ 6 ∷ rest) → length pre ≡ b → 2 ≤ b → e ≡ b + 6
     → undoOne (sendOne m f n) w e ≡ undone n b
 unfolding undoAs
@@ -88,15 +88,15 @@ undo-send m f n w pre rest b e g q h l j =
     )
 
 -- A TAKE
-untake-is : (now : ℕ) (n : Network) → Good n → untake (keep (isDue now) (n .pending)) (takeDue now n) ≡ n
+untake-is : (now : ℕ) (n : Plain) → Good n → untake (keep (isDue now) (n .pending)) (takeDue now n) ≡ n
 untake-is now n g =
     let t : ℕ = length (keep (isDue now) (n .pending)) in
     let p : insertAll (keep (isDue now) (n .pending)) (keep (isLater now) (n .pending)) ≡ n .pending = rejoin (isDue now) (n .pending) (g .ordered) in
     let s : n .delivered + t - t ≡ n .delivered = omega arith in
     rw (p, s)
 
-undo-take : (now : ℕ) (n : Network) (w pre rest : List ℕ) (b e : ℕ) → Good n → length (n .pending) ≤ 128
-    → w ≡ pre ++ (wordsOf (keep (isDue now) (n .pending)) ++ (2 ∷ (8 * length (keep (isDue now) (n .pending)) + 2) ∷ rest))
+undo-take : (now : ℕ) (n : Plain) (w pre rest : List ℕ) (b e : ℕ) → Good n → length (n .pending) ≤ 128
+    → w ≡ pre ++ (recordWords (keep (isDue now) (n .pending)) ++ (2 ∷ (8 * length (keep (isDue now) (n .pending)) + 2) ∷ rest))
     → length pre ≡ b → 2 ≤ b → e ≡ b + (8 * length (keep (isDue now) (n .pending)) + 2)
     → undoOne (takeDue now n) w e ≡ undone n b
 unfolding undoAs
@@ -104,14 +104,14 @@ undo-take now n w pre rest b e g u q h l j =
     let rs : List Record = keep (isDue now) (n .pending) in
     let t : ℕ = length rs in
     let tail : List ℕ = 2 ∷ (8 * t + 2) ∷ rest in
-    let f : w ≡ (pre ++ wordsOf rs) ++ tail = q ∙ sym (append-assoc pre (wordsOf rs) tail) in
-    let k : length (pre ++ wordsOf rs) ≡ b + 8 * t = omega (arith, length-append pre (wordsOf rs), length-wordsOf rs) in
+    let f : w ≡ (pre ++ recordWords rs) ++ tail = q ∙ sym (append-assoc pre (recordWords rs) tail) in
+    let k : length (pre ++ recordWords rs) ≡ b + 8 * t = omega (arith, length-append pre (recordWords rs), length-recordWords rs) in
     let x : e - 2 ≡ b + 8 * t = omega arith in
     let y : e - 1 ≡ b + 8 * t + 1 = omega arith in
     let z : (8 * t + 2 - 2) / 8 ≡ t = omega arith in
     undo-at (takeDue now n) w e 2 (8 * t + 2) b
-    (rw (x, read-first w (pre ++ wordsOf rs) tail (b + 8 * t) f k))
-    (rw (y, read w (pre ++ wordsOf rs) tail (b + 8 * t) 1 f k))
+    (rw (x, read-first w (pre ++ recordWords rs) tail (b + 8 * t) f k))
+    (rw (y, read w (pre ++ recordWords rs) tail (b + 8 * t) 1 f k))
     (omega arith)
     ∙ rw (
       z,
@@ -132,7 +132,7 @@ leb-bit : (b : Bool) → leb (bit b) 1 ≡ true
 leb-bit true = refl
 leb-bit false = refl
 
-undo-choose : (o : Options) (n : Network) (w pre rest : List ℕ) (b e : ℕ)
+undo-choose : (o : Options) (n : Plain) (w pre rest : List ℕ) (b e : ℕ)
     → w ≡ pre ++ (n .options .loss ∷ n .options .replay ∷ n .options .least ∷ n .options .mean ∷ bit (n .options .faulted) ∷ 3 ∷ 7 ∷ rest)
     → length pre ≡ b → 2 ≤ b → e ≡ b + 7
     → undoOne (setOptions o n) w e ≡ undone n b
@@ -154,31 +154,31 @@ undo-choose o n w pre rest b e q h l j =
     )
 
 -- ANY CALL
-pub undo-call : (fate : Draws) (c : Plain) (n : Network) (w pre rest : List ℕ) (e : ℕ) → Good n → length (n .pending) ≤ 128
+pub undo-call : (fate : Draws) (c : Change) (n : Plain) (w pre rest : List ℕ) (e : ℕ) → Good n → length (n .pending) ≤ 128
     → w ≡ pre ++ (undoWords c n ++ rest) → 2 ≤ length pre → e ≡ length pre + length (undoWords c n)
     → undoOne (effect fate c n) w e ≡ undone n (length pre)
 unfolding effect undoWords
 undo-call fate (send m draws extras) n w pre rest e g u q l j =
     undo-send m (fate (n .options) (m .now) (m .kind) draws extras) n w pre rest (length pre) e g q refl l j
-undo-call fate (takes now room) n w pre rest e g u q l j =
+undo-call fate (collect now room) n w pre rest e g u q l j =
     let rs : List Record = keep (isDue now) (n .pending) in
     let z : List ℕ = 2 ∷ (8 * length rs + 2) ∷ [] in
     undo-take now n w pre rest (length pre) e g u
-    (q ∙ ap (λ (x : List ℕ). pre ++ x) (append-assoc (wordsOf rs) z rest))
+    (q ∙ ap (λ (x : List ℕ). pre ++ x) (append-assoc (recordWords rs) z rest))
     refl l
-    (omega (arith, j, length-append (wordsOf rs) z, length-wordsOf rs))
+    (omega (arith, j, length-append (recordWords rs) z, length-recordWords rs))
 undo-call fate (choose o) n w pre rest e g u q l j = undo-choose o n w pre rest (length pre) e q refl l j
 
 -- MANY CALLS
-module _ (fate : Draws) (o : Options) (kept : List Plain) (h₀ h₁ : ℕ) (good : goodOptions o ≡ true) where
-  pub undo-many : (k : ℕ) (recent : List Plain) (rest : List ℕ) → k ≤ length recent → Sound fate o (recent ++ kept)
+module _ (fate : Draws) (o : Options) (kept : List Change) (h₀ h₁ : ℕ) (good : goodOptions o ≡ true) where
+  pub undo-many : (k : ℕ) (recent : List Change) (rest : List ℕ) → k ≤ length recent → Sound fate o (recent ++ kept)
       → undoAll k (replay fate o (recent ++ kept)) (h₀ ∷ h₁ ∷ (flat fate o kept recent ++ rest)) (suc (suc (length (flat fate o kept recent))))
       ≡ undone (replay fate o (drop k recent ++ kept)) (suc (suc (length (flat fate o kept (drop k recent)))))
-  unfolding undoAll flat replay checked onward
+  unfolding undoAll flat replay checked further
   undo-many zero recent rest h s = refl
   undo-many (suc k) [] rest h s = absurd (omega arith)
   undo-many (suc k) (c ∷ recent) rest h s =
-      let n : Network = replay fate o (recent ++ kept) in
+      let n : Plain = replay fate o (recent ++ kept) in
       let front : List ℕ = flat fate o kept recent in
       let u : List ℕ = undoWords c n in
       let w : List ℕ = h₀ ∷ h₁ ∷ ((front ++ u) ++ rest) in

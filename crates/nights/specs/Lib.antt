@@ -2,5 +2,6 @@
 pub mod Record
 pub mod Net
 pub mod Draws
+pub mod Tests
 pub mod Journal
 pub mod Rule

@@ -32,7 +32,7 @@ pub record Options : Type 0 where
   pub mean : ℕ
   pub faulted : Bool
 
-pub record Network : Type 0 where
+pub record Plain : Type 0 where
   pub options : Options
   pub pending : List Record
   pub seq : ℕ
@@ -43,7 +43,7 @@ pub record Network : Type 0 where
   pub delayed : ℕ
 
 -- a fresh network: its options, and zeros
-abbrev pub fresh : Options → Network
+abbrev pub fresh : Options → Plain
 fresh o = record { options = o; pending = []; seq = 0; sent = 0; delivered = 0; lost = 0; replayed = 0; delayed = 0 }
 
 -- those of a list that pass a test, in the list's order; and whether all do
@@ -115,27 +115,20 @@ pub record Letter : Type 0 where
   pub kind : ℕ
   pub handle : ℕ
 
--- the copies of a letter, one for each due tick, numbered from q + 1
+-- the copy of a letter that is due at a tick, under a number; and the copies, one for each due tick, numbered from q + 1
+abbrev pub copyAt : Letter → (due seq : ℕ) → Record
+copyAt m d q =
+    record { due = d; seq = q; sentAt = m .now; sort = m .sort; origin = m .origin; to = m .to; kind = m .kind; handle = m .handle }
+
 unfoldable pub copies : Letter → ℕ → List ℕ → List Record
 copies m q [] = []
-copies m q (d ∷ ds) =
-    record {
-      due = d;
-      seq = q + 1;
-      sentAt = m .now;
-      sort = m .sort;
-      origin = m .origin;
-      to = m .to;
-      kind = m .kind;
-      handle = m .handle;
-    }
-    ∷ copies m (q + 1) ds
+copies m q (d ∷ ds) = copyAt m d (q + 1) ∷ copies m (q + 1) ds
 
 -- the three calls that a rewind can undo, with all that the host lends: `room` is the length of the lent output
-pub data Plain : Type 0 where
-  send : (m : Letter) (draws extras : List ℕ) → Plain
-  take : (now room : ℕ) → Plain
-  choose : (o : Options) → Plain
+pub data Change : Type 0 where
+  send : (m : Letter) (draws extras : List ℕ) → Change
+  collect : (now room : ℕ) → Change
+  choose : (o : Options) → Change
 
 -- a record is due at a tick, or later
 abbrev pub isDue : ℕ → Record → Bool
@@ -145,7 +138,7 @@ abbrev pub isLater : ℕ → Record → Bool
 isLater now r = not (leb (r .due) now)
 
 -- the queueing of a fate: the copies in their places, the counters up
-abbrev pub sendOne : Letter → Fate → Network → Network
+abbrev pub sendOne : Letter → Fate → Plain → Plain
 sendOne m f n =
     record {
       options = n .options;
@@ -158,7 +151,7 @@ sendOne m f n =
       delayed = n .delayed + delayedBy f;
     }
 
-abbrev pub takeDue : ℕ → Network → Network
+abbrev pub takeDue : ℕ → Plain → Plain
 takeDue now n =
     record {
       options = n .options;
@@ -171,7 +164,7 @@ takeDue now n =
       delayed = n .delayed;
     }
 
-abbrev pub setOptions : Options → Network → Network
+abbrev pub setOptions : Options → Plain → Plain
 setOptions o n =
     record {
       options = o;
@@ -185,9 +178,9 @@ setOptions o n =
     }
 
 -- the network after an accepted call
-unfoldable pub effect : Draws → Plain → Network → Network
+unfoldable pub effect : Draws → Change → Plain → Plain
 effect fate (send m draws extras) n = sendOne m (fate (n .options) (m .now) (m .kind) draws extras) n
-effect fate (take now room) n = takeDue now n
+effect fate (collect now room) n = takeDue now n
 effect fate (choose o) n = setOptions o n
 
 -- WELL FORMED
@@ -214,7 +207,7 @@ goodCounts p q s d l r y =
     leb p capacity
     && (leb s sentLimit && (leb l s && (leb r s && (eqb (s + r) (d + l + p) && (eqb q (d + p) && leb y q)))))
 
-unfoldable pub wellFormed : Network → Bool
+unfoldable pub wellFormed : Plain → Bool
 wellFormed n =
     goodOptions (n .options)
     && (every (goodRecord (n .seq)) (n .pending)

@@ -24,9 +24,9 @@ recordSize = 8
 abbrev pub words : Record → List ℕ
 words r = r .due ∷ r .seq ∷ r .sentAt ∷ r .sort ∷ r .origin ∷ r .to ∷ r .kind ∷ r .handle ∷ []
 
-unfoldable pub wordsOf : List Record → List ℕ
-wordsOf [] = []
-wordsOf (x ∷ xs) = words x ++ wordsOf xs
+unfoldable pub recordWords : List Record → List ℕ
+recordWords [] = []
+recordWords (x ∷ xs) = words x ++ recordWords xs
 
 -- the record whose words start at a place, and the t records from there
 abbrev pub recordAt : List ℕ → ℕ → Record

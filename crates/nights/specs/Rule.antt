@@ -7,8 +7,9 @@ use mathlib.Core.Bool.{Bool, true, _&&_, not}
 use lib.ListN.{length, drop, take}
 use lib.Dec.{leb}
 use Rattle.nights.specs.Record.{Record}
-use Rattle.nights.specs.Net.{Options, Network, fresh, keep, rising, Fate, dues, lostBy, replayedBy, delayedBy, Draws, Plain, send, take as takes, choose, copies, effect}
-use Rattle.nights.specs.Journal.{Answer, done, refused, Call, plain, rewind, mark, State, undoWords, step}
+use Rattle.nights.specs.Net.{Options, Plain, fresh, keep, rising, Fate, dues, lostBy, replayedBy, delayedBy, Draws, Change, send, collect, choose, copies, effect}
+use Rattle.nights.specs.Tests.{Answer, done, refused}
+use Rattle.nights.specs.Journal.{Call, change, rewind, mark, State, undoWords, step}
 
 -- THE STANDING LIST, from the calls and their answers
 
@@ -17,26 +18,26 @@ pub record Entry : Type 0 where
   pub answer : Answer
 
 -- the newest first: a refused call is struck out, an accepted rewind of k strikes out the last k that stand, a mark nothing
-unfoldable pub strike : List Plain → Call → Answer → List Plain
-strike st (plain c) done = c ∷ st
-strike st (plain c) (refused k) = st
+unfoldable pub strike : List Change → Call → Answer → List Change
+strike st (change c) done = c ∷ st
+strike st (change c) (refused k) = st
 strike st (rewind k) done = drop k st
 strike st (rewind k) (refused j) = st
 strike st mark done = st
 strike st mark (refused k) = st
 
-unfoldable pub struck : List Plain → List Entry → List Plain
+unfoldable pub struck : List Change → List Entry → List Change
 struck st [] = st
 struck st (x ∷ xs) = struck (strike st (x .call) (x .answer)) xs
 
 -- the oldest first
-abbrev pub standing : List Entry → List Plain
+abbrev pub standing : List Entry → List Change
 standing xs = reverse (struck [] xs)
 
 -- how many of them stand since the last mark: so far a rewind can go
 unfoldable pub reachBy : ℕ → Call → Answer → ℕ
-reachBy n (plain c) done = n + 1
-reachBy n (plain c) (refused k) = n
+reachBy n (change c) done = n + 1
+reachBy n (change c) (refused k) = n
 reachBy n (rewind k) done = n - k
 reachBy n (rewind k) (refused j) = n
 reachBy n mark done = 0
@@ -49,21 +50,21 @@ reached n (x ∷ xs) = reached (reachBy n (x .call) (x .answer)) xs
 -- THE RULE, on a standing list with the oldest first
 
 -- the options that a call leaves
-unfoldable pub optionsBy : Options → Plain → Options
+unfoldable pub optionsBy : Options → Change → Options
 optionsBy o (send m draws extras) = o
-optionsBy o (takes now room) = o
+optionsBy o (collect now room) = o
 optionsBy o (choose p) = p
 
-unfoldable pub optionsRule : Options → List Plain → Options
+unfoldable pub optionsRule : Options → List Change → Options
 optionsRule o [] = o
 optionsRule o (c ∷ later) = optionsRule (optionsBy o c) later
 
 -- a copy that was made, and the calls that stand after the send that made it
 pub record Made : Type 0 where
   pub copy : Record
-  pub later : List Plain
+  pub later : List Change
 
-abbrev pub followed : List Plain → Record → Made
+abbrev pub followed : List Change → Record → Made
 followed later r = record { copy = r; later = later }
 
 abbrev pub copyOf : Made → Record
@@ -73,12 +74,12 @@ abbrev pub seqOf : Made → ℕ
 seqOf m = m .copy .seq
 
 -- no take of the list names a tick at or past the copy's due tick
-unfoldable pub missedBy : Plain → Record → Bool
+unfoldable pub missedBy : Change → Record → Bool
 missedBy (send m draws extras) r = true
-missedBy (takes now room) r = not (leb (r .due) now)
+missedBy (collect now room) r = not (leb (r .due) now)
 missedBy (choose p) r = true
 
-unfoldable pub untaken : List Plain → Record → Bool
+unfoldable pub untaken : List Change → Record → Bool
 untaken [] r = true
 untaken (c ∷ later) r = missedBy c r && untaken later r
 
@@ -95,23 +96,23 @@ total f (x ∷ xs) = f x + total f xs
 
 module _ (fate : Draws) where
   -- the fates of the sends, in order
-  unfoldable pub fateBy : Options → Plain → List Fate
+  unfoldable pub fateBy : Options → Change → List Fate
   fateBy o (send m draws extras) = fate o (m .now) (m .kind) draws extras ∷ []
-  fateBy o (takes now room) = []
+  fateBy o (collect now room) = []
   fateBy o (choose p) = []
 
-  unfoldable pub fates : Options → List Plain → List Fate
+  unfoldable pub fates : Options → List Change → List Fate
   fates o [] = []
   fates o (c ∷ later) = fateBy o c ++ fates (optionsBy o c) later
 
   -- the copies that a call makes, numbered from q + 1
-  unfoldable pub makes : Options → ℕ → Plain → List Record
+  unfoldable pub makes : Options → ℕ → Change → List Record
   makes o q (send m draws extras) = copies m q (dues (fate o (m .now) (m .kind) draws extras))
-  makes o q (takes now room) = []
+  makes o q (collect now room) = []
   makes o q (choose p) = []
 
   -- all copies, in order of making
-  unfoldable pub made : Options → ℕ → List Plain → List Made
+  unfoldable pub made : Options → ℕ → List Change → List Made
   made o q [] = []
   made o q (c ∷ later) = map (followed later) (makes o q c) ++ made (optionsBy o c) (q + length (makes o q c)) later
 
@@ -127,7 +128,7 @@ pub record Exactly (ms : List Made) (l : List Record) : Type 0 where
   pub only : (r : Record) → Member r l → (m : Made) × Member m ms × (waits m ≡ true) × (m .copy ≡ r)
   pub numbers : map seqOf ms ≡ from 1 (length ms)
 
-module _ (fate : Draws) (o : Options) (st : List Plain) where
+module _ (fate : Draws) (o : Options) (st : List Change) where
   -- so many copies wait, and so many are gone
   abbrev pub waitingRule : ℕ
   waitingRule = length (keep waits (made fate o 0 st))
@@ -148,7 +149,7 @@ module _ (fate : Draws) (o : Options) (st : List Plain) where
   delayedRule = total delayedBy (fates fate o st)
 
   -- the options and the counters are what the standing list says
-  pub record Counted (n : Network) : Type 0 where
+  pub record Counted (n : Plain) : Type 0 where
     pub options : n .options ≡ optionsRule o st
     pub seq : n .seq ≡ length (made fate o 0 st)
     pub sent : n .sent ≡ sentRule
@@ -160,7 +161,7 @@ module _ (fate : Draws) (o : Options) (st : List Plain) where
     pub balance : sentRule + replayedRule ≡ deliveredRule + lostRule + waitingRule
 
   -- and the whole network is
-  pub record Told (n : Network) : Type 0 where
+  pub record Told (n : Plain) : Type 0 where
     pub counted : Counted n
     pub pending : Exactly (made fate o 0 st) (n .pending)
 
@@ -180,17 +181,17 @@ start o rest = record { net = fresh o; words = 0 ∷ 2 ∷ rest }
 
 -- THE FOLD of the calls that stand, the newest first, from a fresh network
 module _ (fate : Draws) (o : Options) where
-  unfoldable pub replay : List Plain → Network
+  unfoldable pub replay : List Change → Plain
   replay [] = fresh o
   replay (c ∷ older) = effect fate c (replay older)
 
   -- the words that they wrote, where only `recent` is since the last mark
-  unfoldable pub flat : (kept recent : List Plain) → List ℕ
+  unfoldable pub flat : (kept recent : List Change) → List ℕ
   flat kept [] = []
   flat kept (c ∷ recent) = flat kept recent ++ undoWords c (replay (recent ++ kept))
 
   -- the words of the last r
-  abbrev pub recorded : ℕ → List Plain → List ℕ
+  abbrev pub recorded : ℕ → List Change → List ℕ
   recorded r st = flat (drop r st) (take r st)
 
 -- THE CLAIM
@@ -202,10 +203,10 @@ module _ (fate : Draws) (o : Options) (rest : List ℕ) where
   abbrev pub logOf : List Call → List Entry
   logOf cs = log fate (start o rest) cs
 
-  abbrev pub stack : List Call → List Plain
+  abbrev pub stack : List Call → List Change
   stack cs = struck [] (logOf cs)
 
-  abbrev pub stands : List Call → List Plain
+  abbrev pub stands : List Call → List Change
   stands cs = standing (logOf cs)
 
   abbrev pub reach : List Call → ℕ
@@ -232,7 +233,7 @@ module _ (fate : Draws) (o : Options) (rest : List ℕ) where
     pub stops : (k : ℕ) → reach cs < k → step fate (ran cs) (rewind k) ≡ record { state = ran cs; answer = refused 33 }
     -- what stood at a mark stands for good
     pub marks : (before later : List Call) → cs ≡ before ++ (mark ∷ later)
-        → (more : List Plain) × (stands cs ≡ stands before ++ more)
+        → (more : List Change) × (stands cs ≡ stands before ++ more)
     -- the journal holds the records of what stands since the last mark, and has as many words as it had
     pub holds : (others : List ℕ)
         × (ran cs .words

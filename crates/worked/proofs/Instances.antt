@@ -8,10 +8,11 @@ use mathlib.Core.Bool.{true, false}
 use native.Mathlib.Omega.{arith}
 use lib.ListN.{length, getD}
 use lib.Ieee.{toBits, ofBits}
-use Rattle.nights.specs.Record.{Record, wordsOf, recs}
+use Rattle.nights.specs.Record.{Record, recordWords, recs}
 use Rattle.nights.specs.Net
-use Rattle.nights.specs.Net.{Plain, send, keep, every, earlier, insertBy, insertAll, dues, lostBy, replayedBy, delayedBy, copies, effect, goodOptions, goodRecord, ahead, rising, goodCounts, wellFormed}
-use Rattle.nights.specs.Journal.{done, refused, Call, plain, rewind, mark, held, used, logged, goodHeader, undoWords, undoAs, undoOne, checked, onward, undoAll, verdict, tests, settle, doPlain, rewound, doRewind, doMark, step}
+use Rattle.nights.specs.Net.{Change, send, keep, every, earlier, insertBy, insertAll, dues, lostBy, replayedBy, delayedBy, copies, effect, goodOptions, goodRecord, ahead, rising, goodCounts, wellFormed}
+use Rattle.nights.specs.Tests.{done, refused, verdict, tests, ifDone}
+use Rattle.nights.specs.Journal.{Call, change, rewind, mark, held, used, logged, goodHeader, undoWords, undoAs, undoOne, checked, further, undoAll, doChange, rewound, doRewind, doMark, step}
 use Rattle.nights.specs.Rule.{run, log, strike, struck, stands, reach, reachBy, reached, stack, replay, flat, recorded, optionsBy, fateBy, fates, makes, made, Made, missedBy, untaken, waits, from, Exactly, Told, Claim}
 use Rattle.chance.specs.Probability.{goodWord, isOne, isZero, thresholdOf}
 use Rattle.chance.specs.Draw.{byWord, genBool, genBoolInSend}
@@ -29,8 +30,8 @@ claimed : (cs : List Call) → Claim fateOf options rest cs
 claimed cs = claim-of-the-rules options options-good rest cs
 
 -- the claim of a run whose standing list is known
-known : (cs : List Call) (st : List Plain) → stands fateOf options rest cs ≡ st → Told fateOf options st (after cs .net)
-known cs st e = subst (λ (l : List Plain). Told fateOf options l (after cs .net)) e (claimed cs .told)
+known : (cs : List Call) (st : List Change) → stands fateOf options rest cs ≡ st → Told fateOf options st (after cs .net)
+known cs st e = subst (λ (l : List Change). Told fateOf options l (after cs .net)) e (claimed cs .told)
 
 -- words 0 and 1, from what the journal holds
 headed : (cs : List Call)
@@ -42,7 +43,7 @@ headed cs =
 
 -- ---- the table's run: the send stands alone
 
-abbrev first : Plain
+abbrev first : Change
 first = send (letterAt 10) draws extras
 
 -- its copy is due at 17 under the number 1, the original at 12 under the number 2
@@ -52,7 +53,7 @@ copyFirst = record { due = 17; seq = 1; sentAt = 10; sort = 0; origin = 1; to = 
 abbrev original : Record
 original = record { due = 12; seq = 2; sentAt = 10; sort = 0; origin = 1; to = 2; kind = 1; handle = 7 }
 
-abbrev madeThen : List Plain → List Made
+abbrev madeThen : List Change → List Made
 madeThen later = record { copy = copyFirst; later = later } ∷ record { copy = original; later = later } ∷ []
 
 four-stands : stands fateOf options rest four ≡ first ∷ []
@@ -60,7 +61,7 @@ unfolding
     toBits ofBits goodWord isOne isZero thresholdOf byWord genBool genBoolInSend
     isFaulted extrasFor extraAt dueAt isTick isLate aloneOf both afterReplay afterLoss decided
     keep every earlier insertBy insertAll dues lostBy replayedBy delayedBy copies effect goodOptions goodRecord ahead rising goodCounts wellFormed
-    logged goodHeader wordsOf recs undoWords undoAs undoOne checked onward undoAll verdict tests settle doPlain rewound doRewind doMark step
+    logged goodHeader recordWords recs undoWords undoAs undoOne checked further undoAll verdict tests ifDone doChange rewound doRewind doMark step
     run log strike struck
 four-stands = refl
 
@@ -108,7 +109,7 @@ unfolding
     toBits ofBits goodWord isOne isZero thresholdOf byWord genBool genBoolInSend
     isFaulted extrasFor extraAt dueAt isTick isLate aloneOf both afterReplay afterLoss decided
     keep every earlier insertBy insertAll dues lostBy replayedBy delayedBy copies effect goodOptions goodRecord ahead rising goodCounts wellFormed
-    logged goodHeader wordsOf recs undoWords undoAs undoOne checked onward undoAll verdict tests settle doPlain rewound doRewind doMark step
+    logged goodHeader recordWords recs undoWords undoAs undoOne checked further undoAll verdict tests ifDone doChange rewound doRewind doMark step
     run log strike struck reachBy reached replay flat optionsBy fateBy fates makes made missedBy untaken
 document-run =
     let t : Told fateOf options (first ∷ []) (after four .net) = known four (first ∷ []) four-stands in (
@@ -125,7 +126,7 @@ abbrev across : List Call
 across =
     doubled 10
     ∷ mark
-    ∷ plain (Net.take 12 7)
+    ∷ change (Net.collect 12 7)
     ∷ taking 12
     ∷ alone 20
     ∷ rewind 2
@@ -133,20 +134,20 @@ across =
     ∷ taking 12
     ∷ []
 
-abbrev thenTaken : List Plain
-thenTaken = first ∷ Net.take 12 80 ∷ []
+abbrev thenTaken : List Change
+thenTaken = first ∷ Net.collect 12 80 ∷ []
 
 across-stands : (answers across ≡ done ∷ done ∷ refused 30 ∷ done ∷ done ∷ done ∷ refused 33 ∷ done ∷ []) × (stands fateOf options rest across ≡ thenTaken)
 unfolding
     toBits ofBits goodWord isOne isZero thresholdOf byWord genBool genBoolInSend
     isFaulted extrasFor extraAt dueAt isTick isLate aloneOf both afterReplay afterLoss decided
     keep every earlier insertBy insertAll dues lostBy replayedBy delayedBy copies effect goodOptions goodRecord ahead rising goodCounts wellFormed
-    logged goodHeader wordsOf recs undoWords undoAs undoOne checked onward undoAll verdict tests settle doPlain rewound doRewind doMark step
+    logged goodHeader recordWords recs undoWords undoAs undoOne checked further undoAll verdict tests ifDone doChange rewound doRewind doMark step
     run log strike struck
 across-stands = (refl, refl)
 
 -- the copy waits alone, and the original is gone
-one-waits : Exactly (madeThen (Net.take 12 80 ∷ [])) (copyFirst ∷ [])
+one-waits : Exactly (madeThen (Net.collect 12 80 ∷ [])) (copyFirst ∷ [])
 unfolding rising every ahead earlier untaken missedBy from
 one-waits =
     record {
@@ -157,13 +158,13 @@ one-waits =
     }
   where
     ms : List Made
-    ms = madeThen (Net.take 12 80 ∷ [])
+    ms = madeThen (Net.collect 12 80 ∷ [])
 
     one : Made
-    one = record { copy = copyFirst; later = Net.take 12 80 ∷ [] }
+    one = record { copy = copyFirst; later = Net.collect 12 80 ∷ [] }
 
     two : Made
-    two = record { copy = original; later = Net.take 12 80 ∷ [] }
+    two = record { copy = original; later = Net.collect 12 80 ∷ [] }
 
     last : (m : Made) → waits m ≡ true → (m ≡ two) ⊎ Member m [] → Member (m .copy) (copyFirst ∷ [])
     last m w (inl e) =
@@ -189,11 +190,11 @@ unfolding
     toBits ofBits goodWord isOne isZero thresholdOf byWord genBool genBoolInSend
     isFaulted extrasFor extraAt dueAt isTick isLate aloneOf both afterReplay afterLoss decided
     keep every earlier insertBy insertAll dues lostBy replayedBy delayedBy copies effect goodOptions goodRecord ahead rising goodCounts wellFormed
-    logged goodHeader wordsOf recs undoWords undoAs undoOne checked onward undoAll verdict tests settle doPlain rewound doRewind doMark step
+    logged goodHeader recordWords recs undoWords undoAs undoOne checked further undoAll verdict tests ifDone doChange rewound doRewind doMark step
     run log strike struck reachBy reached replay flat optionsBy fateBy fates makes made missedBy untaken
 rewind-across =
     let t : Told fateOf options thenTaken (after across .net) = known across thenTaken (across-stands .1) in (
-      exactly-one (madeThen (Net.take 12 80 ∷ [])) (after across .net .pending) (copyFirst ∷ []) (t .pending) one-waits,
+      exactly-one (madeThen (Net.collect 12 80 ∷ [])) (after across .net .pending) (copyFirst ∷ []) (t .pending) one-waits,
       t .counted .sent,
       t .counted .delivered,
       headed across .0,

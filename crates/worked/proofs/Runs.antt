@@ -6,9 +6,10 @@ use mathlib.Core.Bool.{true, false}
 use lib.ListN.{length, replicate}
 use lib.Ieee.{toBits, ofBits}
 use Rattle.nights.specs.Net
-use Rattle.nights.specs.Record.{Record, wordsOf, recs}
+use Rattle.nights.specs.Record.{Record, recordWords, recs}
 use Rattle.nights.specs.Net.{Options, Letter, twice, send, choose, fresh, keep, every, earlier, insertBy, insertAll, dues, lostBy, replayedBy, delayedBy, copies, effect, goodOptions, goodRecord, ahead, rising, goodCounts, wellFormed}
-use Rattle.nights.specs.Journal.{State, Answer, done, refused, Call, plain, rewind, mark, held, used, logged, goodHeader, undoWords, undoAs, undoOne, checked, onward, undoAll, verdict, tests, settle, doPlain, rewound, doRewind, doMark, step}
+use Rattle.nights.specs.Journal.{State, Call, change, rewind, mark, held, used, logged, goodHeader, undoWords, undoAs, undoOne, checked, further, undoAll, doChange, rewound, doRewind, doMark, step}
+use Rattle.nights.specs.Tests.{Answer, done, refused, verdict, tests, ifDone}
 use Rattle.nights.specs.Rule.{run, log, Entry, strike, struck, logOf, stands, reach, reachBy, reached, optionsBy, optionsRule, fateBy, fates, total, makes, made, missedBy, untaken, copyOf, waits, deliveredRule, sentRule, lostRule, replayedRule, delayedRule}
 use Rattle.chance.specs.Probability.{goodWord, isOne, isZero, thresholdOf}
 use Rattle.chance.specs.Draw.{byWord, genBool, genBoolInSend}
@@ -20,13 +21,13 @@ letterAt now = record { now = now; sort = 0; origin = 1; to = 2; kind = 1; handl
 
 -- replayed, as in the table's run; lost; alone, with no delay
 abbrev pub doubled : ℕ → Call
-doubled now = plain (send (letterAt now) draws extras)
+doubled now = change (send (letterAt now) draws extras)
 
 abbrev pub gone : ℕ → Call
-gone now = plain (send (letterAt now) (0 ∷ []) [])
+gone now = change (send (letterAt now) (0 ∷ []) [])
 
 abbrev pub alone : ℕ → Call
-alone now = plain (send (letterAt now) (9223372036854775808 ∷ 9223372036854775808 ∷ []) (0 ∷ []))
+alone now = change (send (letterAt now) (9223372036854775808 ∷ 9223372036854775808 ∷ []) (0 ∷ []))
 
 -- the words of the table's journal behind its header
 abbrev pub rest : List ℕ
@@ -61,7 +62,7 @@ unfolding
     toBits ofBits goodWord isOne isZero thresholdOf byWord genBool genBoolInSend
     isFaulted extrasFor extraAt dueAt isTick isLate aloneOf both afterReplay afterLoss decided
     keep every earlier insertBy insertAll dues lostBy replayedBy delayedBy copies effect goodOptions goodRecord ahead rising goodCounts wellFormed
-    logged goodHeader wordsOf recs undoWords undoAs undoOne checked onward undoAll verdict tests settle doPlain rewound doRewind doMark step
+    logged goodHeader recordWords recs undoWords undoAs undoOne checked further undoAll verdict tests ifDone doChange rewound doRewind doMark step
     run log strike struck optionsBy optionsRule fateBy fates total makes made missedBy untaken
 by-the-rule = (refl, refl, refl, refl)
 
@@ -94,7 +95,7 @@ unfolding
     toBits ofBits goodWord isOne isZero thresholdOf byWord genBool genBoolInSend
     isFaulted extrasFor extraAt dueAt isTick isLate aloneOf both afterReplay afterLoss decided
     keep every earlier insertBy insertAll dues lostBy replayedBy delayedBy copies effect goodOptions goodRecord ahead rising goodCounts wellFormed
-    logged goodHeader wordsOf recs undoWords undoAs undoOne checked onward undoAll verdict tests settle doPlain rewound doRewind doMark step
+    logged goodHeader recordWords recs undoWords undoAs undoOne checked further undoAll verdict tests ifDone doChange rewound doRewind doMark step
     run log strike struck reachBy reached optionsBy optionsRule fateBy fates total makes made missedBy untaken
 clock-goes-back = (refl, refl, refl, refl, refl, refl, refl, refl, refl, refl, refl, refl, refl)
 
@@ -104,10 +105,10 @@ all-lost = record { loss = 0x3ff0_0000_0000_0000; replay = 0; least = 3; mean = 
 
 abbrev pub changed : List Call
 changed =
-    plain (choose all-lost)
+    change (choose all-lost)
     ∷ gone 1
-    ∷ plain (choose (record { loss = 0x3ff0_0000_0000_0001; replay = 0; least = 3; mean = 3; faulted = true }))
-    ∷ plain (choose (record { loss = 0; replay = 0; least = 4; mean = 3; faulted = true }))
+    ∷ change (choose (record { loss = 0x3ff0_0000_0000_0001; replay = 0; least = 3; mean = 3; faulted = true }))
+    ∷ change (choose (record { loss = 0; replay = 0; least = 4; mean = 3; faulted = true }))
     ∷ []
 
 pub options-change :
@@ -121,7 +122,7 @@ unfolding
     toBits ofBits goodWord isOne isZero thresholdOf byWord genBool genBoolInSend
     isFaulted extrasFor extraAt dueAt isTick isLate aloneOf both afterReplay afterLoss decided
     keep every earlier insertBy insertAll dues lostBy replayedBy delayedBy copies effect goodOptions goodRecord ahead rising goodCounts wellFormed
-    logged goodHeader wordsOf recs undoWords undoAs undoOne checked onward undoAll verdict tests settle doPlain rewound doRewind doMark step
+    logged goodHeader recordWords recs undoWords undoAs undoOne checked further undoAll verdict tests ifDone doChange rewound doRewind doMark step
     run log
 options-change = (refl, refl, refl, refl, refl, refl)
 
@@ -139,12 +140,12 @@ pub refusals :
     × (step fateOf (on (1 ∷ 9 ∷ 0 ∷ 0 ∷ 5 ∷ 4 ∷ 1 ∷ 3 ∷ 7 ∷ [])) (rewind 1) .answer ≡ refused 31)
     × (step fateOf (on (1 ∷ 9 ∷ 0 ∷ 0 ∷ 3 ∷ 4 ∷ 1 ∷ 3 ∷ 7 ∷ [])) (rewind 1) .answer ≡ done)
     × (step fateOf (on (0 ∷ [])) mark .answer ≡ refused 32)
-    × (step fateOf (after (doubled 10 ∷ [])) (plain (Net.take 17 15)) .answer ≡ refused 30)
+    × (step fateOf (after (doubled 10 ∷ [])) (change (Net.collect 17 15)) .answer ≡ refused 30)
     × (step fateOf (run fateOf (record { net = fresh options; words = 0 ∷ 2 ∷ replicate 400 0 }) (replicate 64 (doubled 10))) (alone 10) .answer ≡ refused 29)
 unfolding
     toBits ofBits goodWord isOne isZero thresholdOf byWord genBool genBoolInSend
     isFaulted extrasFor extraAt dueAt isTick isLate aloneOf both afterReplay afterLoss decided
     keep every earlier insertBy insertAll dues lostBy replayedBy delayedBy copies effect goodOptions goodRecord ahead rising goodCounts wellFormed
-    logged goodHeader wordsOf recs undoWords undoAs undoOne checked onward undoAll verdict tests settle doPlain rewound doRewind doMark step
+    logged goodHeader recordWords recs undoWords undoAs undoOne checked further undoAll verdict tests ifDone doChange rewound doRewind doMark step
     run log
 refusals = (refl, refl, refl, refl, refl, refl, refl, refl, refl, refl, refl)

@@ -11,10 +11,11 @@ use Rattle.plants.specs.State as State
 use Rattle.plants_lineup.specs.Shuffle.{shuffledFrom, picksWithin}
 use Rattle.plants_lineup.specs.Core.{picksInRange, idsFrom, those, lineUp, insertedId, sortedIds, coreOf, recoveringFit, healthyCount}
 use Rattle.plants_liveness.specs.Choice.{member, inCore, risen, lentTested, choiceTested, chosen}
-use Rattle.nights.specs.Record.{wordsOf, recs}
+use Rattle.nights.specs.Record.{recordWords, recs}
 use Rattle.nights.specs.Net.{keep, every, earlier, insertBy, insertAll, dues, lostBy, replayedBy, delayedBy, copies, effect, goodOptions, goodRecord, ahead, rising, goodCounts, wellFormed}
 use Rattle.nights.specs.Draws.{isFaulted, extrasFor, extraAt, dueAt, isTick, isLate, alone, both, afterReplay, afterLoss, decided}
-use Rattle.nights.specs.Journal.{logged, goodHeader, undoWords, undoAs, undoOne, checked, onward, undoAll, verdict, tests, settle, doPlain, rewound, doRewind, doMark, step}
+use Rattle.nights.specs.Journal.{logged, goodHeader, undoWords, undoAs, undoOne, checked, further, undoAll, doChange, rewound, doRewind, doMark, step}
+use Rattle.nights.specs.Tests.{verdict, tests, ifDone}
 use Rattle.nights.specs.Rule.{run}
 use Rattle.worked.specs.Table.{Worked}
 
@@ -27,7 +28,7 @@ unfolding
     member inCore risen recoveringFit healthyCount lentTested choiceTested chosen
     isFaulted extrasFor extraAt dueAt isTick isLate alone both afterReplay afterLoss decided
     keep every earlier insertBy insertAll dues lostBy replayedBy delayedBy copies effect goodOptions goodRecord ahead rising goodCounts wellFormed
-    logged goodHeader wordsOf recs undoWords undoAs undoOne checked onward undoAll verdict tests settle doPlain rewound doRewind doMark step run
+    logged goodHeader recordWords recs undoWords undoAs undoOne checked further undoAll verdict tests ifDone doChange rewound doRewind doMark step run
 worked =
     record {
       half = refl;

@@ -19,7 +19,7 @@ use Rattle.nights.specs.Record.{Record}
 use Rattle.nights.specs.Net.{Options, Letter, keep, isDue}
 use Rattle.nights.specs.Net
 use Rattle.nights.specs.Draws.{fateOf, decided}
-use Rattle.nights.specs.Journal.{Call, plain, rewind, State, held, used}
+use Rattle.nights.specs.Journal.{Call, change, rewind, State, held, used}
 use Rattle.nights.specs.Rule.{ran}
 
 -- ---- what the rows speak of
@@ -58,10 +58,10 @@ abbrev pub extras : List ℕ
 extras = 5 ∷ 0 ∷ []
 
 abbrev pub send : Call
-send = plain (Net.send letter draws extras)
+send = change (Net.send letter draws extras)
 
 abbrev pub taking : ℕ → Call
-taking now = plain (Net.take now 80)
+taking now = change (Net.collect now 80)
 
 -- after calls from a freshPlants network and a journal of 82 words, just marked
 abbrev pub after : List Call → State

@@ -2,7 +2,7 @@
 use mathlib.Core.Path.{_≡_}
 use mathlib.Core.Bool.{Bool, true}
 use lib.Dec.{T}
-use Rattle.network_fates.proofs.OptionForms.{good-chances}
+use Rattle.network_options.proofs.OptionForms.{good-chances}
 use borrow.Author.Needs.{needs}
 use Rattle.journal_ledger.proofs.options_record.Statement.{statement}
 use Rattle.journal_ledger.proofs.options_record.Tie as tie

@@ -3,16 +3,16 @@ use mathlib.Core.Path.{_≡_, refl, sym, ap, _∙_}
 use mathlib.Core.List.{List}
 use Prim.Native.Nat.{ℕ}
 use lib.ListN.{length}
-use Rattle.nights.specs.Net.{Plain as Call, choose}
-use Rattle.nights.specs.Journal.{done, undoWords, verdict, journalTests}
+use Rattle.nights.specs.Net.{Change, choose}
+use Rattle.nights.specs.Tests.{done, verdict}
+use Rattle.nights.specs.Journal.{undoWords, journalTests}
 use Rattle.nights.proofs.Kept.{options-good}
 use Rattle.network.specs.declared.Network.{Network}
-use Rattle.network_fates.specs.Options.{plainOptions}
-use Rattle.network_fates.specs.Answers.{settledOf}
+use Rattle.network_options.specs.Options.{plainOptions}
+use Rattle.network_options.specs.Answers.{settledOf}
 use Rattle.network.specs.Forms.{plainOf}
 use Rattle.network.specs.Calls.{callAnswer}
-use Rattle.network.proofs.Maps.{plain-formed}
-use Rattle.network.proofs.Laws.{was-formed}
+use Rattle.network.proofs.Structs.{plain-formed, was-formed}
 use Rattle.journal_ledger.proofs.Words.{roomy}
 use Rattle.journal_calls.proofs.Journaled.{refused-plain, refused-then, accepted}
 use borrow.Author.Needs.{needs}
@@ -22,7 +22,7 @@ use Rattle.journal_options.proofs.set_options.Tie as tie
 abbrev network : (c : tie.After-set-options) → Network
 network c = c .before .before .args .network
 
-abbrev call : (c : tie.After-set-options) → Call
+abbrev call : (c : tie.After-set-options) → Change
 call c = choose (plainOptions (c .before .before .args .options))
 
 abbrev words : (c : tie.After-set-options) → List ℕ

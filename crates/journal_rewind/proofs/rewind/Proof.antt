@@ -8,9 +8,9 @@ use borrow.Author.Tests.{not-true, not-false}
 use lib.ListN.{length, length-set}
 use Rattle.nights.specs.Journal.{goodHeader}
 use Rattle.network.specs.declared.Network.{Network}
-use Rattle.network.specs.Answers.{countedOf}
+use Rattle.network_take.specs.Takes.{countedOf}
 use Rattle.network.specs.Forms.{isFormed}
-use Rattle.network_fates.proofs.OptionForms.{Held}
+use Rattle.network_options.proofs.OptionForms.{Held}
 use Rattle.journal_undo.proofs.Telling.{ill-told, well-told}
 use Rattle.journal_ledger.proofs.Words.{Header, good-header, headed}
 use Rattle.journal_rewind.proofs.Rewinds.{ill, bad-header, too-far, no-fit, went-back}
@@ -41,7 +41,7 @@ module _ (c : tie.Else1) where
 
 -- the network that the undoing left is one of the code
 module _ (c : tie.After-struct-known) where
-  held : Held (c .before .undo-all .result .network .options)
+  held : Held (c .before .undo-all .result .network .head .options)
   held = record { loss = search needs; replay = search needs }
 
   long : length (c .before .undo-all .result .network .words) ≡ 1024

@@ -2,16 +2,17 @@
 use Prim.Native.Nat.{ℕ}
 use mathlib.Core.Path.{_≡_, refl, sym, ap, _∙_}
 use mathlib.Core.List.{List}
-use Rattle.nights.specs.Net.{Plain as Call, send as sends}
+use Rattle.nights.specs.Net.{Change, send as sends}
 use Rattle.nights.specs.Draws.{Decided, decided}
-use Rattle.nights.specs.Journal.{Answer, done, undoWords, verdict, journalTests}
+use Rattle.nights.specs.Tests.{Answer, done, verdict}
+use Rattle.nights.specs.Journal.{undoWords, journalTests}
 use Rattle.network.specs.declared.Network.{Network}
-use Rattle.network.specs.declared.SendAnswer.{SendAnswer}
-use Rattle.network_fates.specs.Answers.{settledOf}
-use Rattle.network.specs.Answers.{Sending, sentOf, sending}
-use Rattle.network.specs.Forms.{plainOf, letterOf}
+use Rattle.network_send.specs.declared.SendAnswer.{SendAnswer}
+use Rattle.network_options.specs.Answers.{settledOf}
+use Rattle.network_send.specs.Sends.{Sending, sentOf, sending, letterOf}
+use Rattle.network.specs.Forms.{plainOf}
 use Rattle.network.specs.Calls.{callAnswer}
-use Rattle.network.proofs.Calling.{answer-of}
+use Rattle.network_send.proofs.Testing.{answer-of}
 use Rattle.journal_ledger.proofs.Words.{roomy}
 use Rattle.journal_calls.proofs.Journaled.{refused-plain, refused-then, accepted}
 use borrow.Author.Needs.{needs}
@@ -25,7 +26,7 @@ module _ (c : tie.After-send) where
   abbrev network : Network
   network = start .args .network
 
-  abbrev call : Call
+  abbrev call : Change
   call =
       sends (letterOf (start .args .now) (start .args .sort) (start .args .origin) (start .args .to) (start .args .kind) (start .args .handle))
       (start .args .draws .now) (start .args .extras .now)

@@ -6,16 +6,18 @@ use mathlib.Core.List.{List, [], _∷_, _++_}
 use native.Mathlib.Omega.{arith}
 use lib.ListN.{length, take, set, length-append, length-take, length-set}
 use lib.Seq.{length-take-le}
-use Rattle.nights.specs.Record.{Record, wordsOf}
-use Rattle.nights.specs.Net.{Plain as Call, take as takes, keep, isDue}
+use Rattle.nights.specs.Record.{Record, recordWords}
+use Rattle.nights.specs.Net.{Change, collect, keep, isDue}
 use Rattle.basis.specs.Basis.{laid}
-use Rattle.nights.specs.Journal.{Answer, done, logged, undoWords, verdict, journalTests}
+use Rattle.nights.specs.Tests.{Answer, done, verdict, ifDone}
+use Rattle.nights.specs.Journal.{logged, undoWords, journalTests}
 use Rattle.network.specs.declared.Network.{Network}
-use Rattle.network_fates.specs.Answers.{settledOf}
-use Rattle.network.specs.Answers.{countedOf, counting}
+use Rattle.network_options.specs.Answers.{settledOf}
+use Rattle.network_take.specs.Takes.{countedOf, counting}
 use Rattle.network.specs.Forms.{plainOf}
-use Rattle.network.specs.Calls.{callAnswer, written}
-use Rattle.network.proofs.Calling.{stays}
+use Rattle.network.specs.Calls.{callAnswer}
+use Rattle.network_form.specs.Calls.{written}
+use Rattle.network.proofs.Structs.{stays}
 use Rattle.journal_ledger.proofs.Words.{roomy}
 use Rattle.journal_calls.proofs.Journaled.{refused-first, refused-then, accepted}
 use Rattle.journal_take.proofs.Takes.{over-front, told-done, told-refused, own-refused, own-small, lent-short, lent-well, same-network, record-size, length-last, taken-front, the-record}
@@ -36,8 +38,8 @@ module _ (c : tie.After-take-due) where
   abbrev output : List ℕ
   output = start .args .out .now
 
-  abbrev call : Call
-  call = takes at (length output)
+  abbrev call : Change
+  call = collect at (length output)
 
   abbrev words : List ℕ
   words = start .args .journal .now
@@ -53,9 +55,9 @@ module _ (c : tie.After-known-told) where
   abbrev count : ℕ
   count = c .before .answer .given .0 .0
 
-  told : (callAnswer (takes (at plain) 1024) (network plain) ≡ done) × (count ≡ length (due plain))
+  told : (callAnswer (collect (at plain) 1024) (network plain) ≡ done) × (count ≡ length (due plain))
   told =
-      told-done (callAnswer (takes (at plain) 1024) (network plain)) (length (due plain)) count
+      told-done (callAnswer (collect (at plain) 1024) (network plain)) (length (due plain)) count
       (sym (ap countedOf (c .before .answer .given .1)) ∙ plain .take-due .ensures .1 .0)
 
   small : count * 8 ≤ 1024
@@ -73,7 +75,7 @@ module _ (c : tie.After-known-told) where
         length-last (network plain) (at plain) 0 (told .0) count (told .1) (plain .take-due .last .1 .1 .0) _ 0 0 refl (plain .take-due .ensures .1 .1),
       )
 
-  taken : take (count * 8) array ≡ wordsOf (due plain)
+  taken : take (count * 8) array ≡ recordWords (due plain)
   taken = taken-front (network plain) (at plain) 0 (told .0) count (told .1) (plain .take-due .last .1 .1 .0) _ 0 0 refl (plain .take-due .ensures .1 .1)
 
   abbrev ended : List ℕ
@@ -113,15 +115,15 @@ enum-told : tie.Need-enum-told
 enum-told c = search needs
 
 returns : tie.Need-returns
-unfolding counting written
+unfolding counting ifDone
 returns c =
     let p = c .before .before .before in
     let n = p .take-due .ensures in
     let r = ap countedOf (c .enum-told .given .1) in
-    let e = told-refused (callAnswer (takes (at p) 1024) (network p)) (length (due p)) _ (sym r ∙ n .1 .0) in
+    let e = told-refused (callAnswer (collect (at p) 1024) (network p)) (length (due p)) _ (sym r ∙ n .1 .0) in
     let m = refused-first (call p) (network p) (words p) _ (own-refused (network p) (at p) (length (output p)) _ e) in (
-      n .0 ∙ (sym (stays (network p) (takes (at p) 1024) _ e) ∙ m .network),
-      (r ∙ ap (λ (a : Answer). counting a (length (due p))) (m .answer), (ap (λ (a : Answer). written a (wordsOf (due p)) (output p)) (m .answer), m .words)),
+      n .0 ∙ (sym (stays (network p) (collect (at p) 1024) _ e) ∙ m .network),
+      (r ∙ ap (λ (a : Answer). counting a (length (due p))) (m .answer), (ap (λ (a : Answer). written a (recordWords (due p)) (output p)) (m .answer), m .words)),
     )
 
 mul-size : tie.Need-mul-size
@@ -131,14 +133,14 @@ refused-take-requires : tie.Need-refused-take-requires
 refused-take-requires c κs = search needs
 
 returns-2 : tie.Need-returns-2
-unfolding counting written
+unfolding counting ifDone
 returns-2 c =
     let k = c .before .before in
     let p = plain k in
     let e = lent-short (network p) (at p) (length (output p)) (told k .0) (count k) (told k .1) (c .before .if1 .taken) in
     let m = refused-first (call p) (network p) (words p) 30 e in
     let r = c .refused-take .ensures in
-    (r .0 ∙ m .network, (r .1 ∙ ap (λ (a : Answer). counting a (length (due p))) (m .answer), (ap (λ (a : Answer). written a (wordsOf (due p)) (output p)) (m .answer), m .words)))
+    (r .0 ∙ m .network, (r .1 ∙ ap (λ (a : Answer). counting a (length (due p))) (m .answer), (ap (λ (a : Answer). written a (recordWords (due p)) (output p)) (m .answer), m .words)))
 
 add-room-for : tie.Need-add-room-for
 add-room-for c = search needs
@@ -201,7 +203,7 @@ same-length-2 : tie.Need-same-length-2
 same-length-2 c = search needs
 
 returns-3 : tie.Need-returns-3
-unfolding written
+unfolding ifDone
 returns-3 c =
     let q = c .before .before .before .before .before .before .before .before .before .before in
     let k = known q in
@@ -216,7 +218,7 @@ returns-3 c =
         (
           c .before .before .before .before .before .before .before .write-at .ensures
               ∙ (ap (λ (x : List ℕ). laid (output p) 0 x) (taken k)
-              ∙ (over-front (output p) (wordsOf (due p)) ∙ ap (λ (a : Answer). written a (wordsOf (due p)) (output p)) d)),
+              ∙ (over-front (output p) (recordWords (due p)) ∙ ap (λ (a : Answer). written a (recordWords (due p)) (output p)) d)),
           c .before .before .append .ensures ∙ (ap (λ (x : List ℕ). logged (words p) x) (wrote k) ∙ m .words),
         ),
       ),
@@ -229,7 +231,7 @@ same-length-3 : tie.Need-same-length-3
 same-length-3 c = search needs
 
 returns-4 : tie.Need-returns-4
-unfolding counting written
+unfolding counting ifDone
 returns-4 c =
     let q = c .before .before .before .before in
     let k = q .before .before .before in
@@ -239,7 +241,7 @@ returns-4 c =
     let z = record-size (network p) (at p) (length (output p)) (told k .0) (count k) (told k .1) in
     let m = refused-then (call p) (network p) (words p) e _ _ z j in
     let r = c .refused-take2 .ensures in
-    (r .0 ∙ m .network, (r .1 ∙ ap (λ (a : Answer). counting a (length (due p))) (m .answer), (ap (λ (a : Answer). written a (wordsOf (due p)) (output p)) (m .answer), m .words)))
+    (r .0 ∙ m .network, (r .1 ∙ ap (λ (a : Answer). counting a (length (due p))) (m .answer), (ap (λ (a : Answer). written a (recordWords (due p)) (output p)) (m .answer), m .words)))
 
 pub take-due-spec : {M : Type 1} → statement M
 take-due-spec =

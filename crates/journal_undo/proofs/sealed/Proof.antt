@@ -1,7 +1,7 @@
 -- `journal_undo::sealed` meets its contract: `pending` refuses exactly the ill-formed networks. Assumes nothing.
 use mathlib.Core.Path.{sym, ap, _∙_}
 use borrow.Author.Needs.{needs}
-use Rattle.network.specs.Answers.{countedOf}
+use Rattle.network_take.specs.Takes.{countedOf}
 use Rattle.journal_undo.proofs.Telling.{told-misfit, ill-told, well-told, sealed-misfit, sealed-fits}
 use Rattle.journal_undo.proofs.sealed.Statement.{statement}
 use Rattle.journal_undo.proofs.sealed.Tie as tie

@@ -8,10 +8,11 @@ use denote.Floats.{passes}
 use lib.ListN.{length, getD}
 use Rattle.journal_undo.proofs.Telling.{told-misfit, options-size, bad-flag, bad-loss, bad-replay, options-fit}
 use Rattle.journal_undo.proofs.Leaving.{options-leave}
+use Rattle.network_queue.specs.Packed.{arraySize}
 use Rattle.journal_undo.proofs.undo_options.Statement.{statement}
 use Rattle.journal_undo.proofs.undo_options.Tie as tie
 
-long : (c : tie.Start) → length (c .args .network .words) ≡ 1024
+long : (c : tie.Start) → length (c .args .network .words) ≡ arraySize
 long c = search needs
 
 -- where the flag was tested
@@ -96,34 +97,34 @@ of-word-requires c κs = passes _ (sym (c .before .before .before .before .good-
 of-word-requires-2 : tie.Need-of-word-requires-2
 of-word-requires-2 c κs = passes _ (sym (c .before .before .good-word2 .ensures) ∙ not-false _ (c .before .if4 .left))
 
-add-t10 : tie.Need-add-t10
-add-t10 c = search needs
+add-t12 : tie.Need-add-t12
+add-t12 c = search needs
 
-mul-t12 : tie.Need-mul-t12
-mul-t12 c = search needs
+mul-t14 : tie.Need-mul-t14
+mul-t14 c = search needs
 
-shared-slice-read-t14 : tie.Need-shared-slice-read-t14
-shared-slice-read-t14 c = search needs
+shared-slice-read-t16 : tie.Need-shared-slice-read-t16
+shared-slice-read-t16 c = search needs
 
-add-t21 : tie.Need-add-t21
-add-t21 c = search needs
+add-t23 : tie.Need-add-t23
+add-t23 c = search needs
 
-mul-t22 : tie.Need-mul-t22
-mul-t22 c = search needs
+mul-t24 : tie.Need-mul-t24
+mul-t24 c = search needs
 
-shared-slice-read-t24 : tie.Need-shared-slice-read-t24
-shared-slice-read-t24 c = search needs
+shared-slice-read-t26 : tie.Need-shared-slice-read-t26
+shared-slice-read-t26 c = search needs
 
 sealed-requires : tie.Need-sealed-requires
 sealed-requires c κs = search needs
 
 returns-5 : tie.Need-returns-5
 returns-5 c =
-    let o = c .before .before .before .before .before .before .before .before .before .before .before in
+    let o = c .before .before .before .before .before .before .before .before .before .before .before .before .before in
     let a = o .before .before .before .before in (
       c .sealed .ensures .0
           ∙ (options-leave (a .args .network) (a .pre .0) (long a) _ _ (a .args .start)
-          (rw (c .before .before .before .before .of-word .ensures .1, c .before .before .before .of-word2 .ensures .1))
+          (rw (c .before .before .before .before .before .before .of-word .ensures .1, c .before .before .before .before .before .of-word2 .ensures .1))
           ∙ options-fit _ _ _ _ _ (seven o) (nine o) (small-flag o)),
       c .sealed .ensures .1,
     )
@@ -153,11 +154,11 @@ undo-options-spec =
     returns-4
     of-word-requires
     of-word-requires-2
-    add-t10
-    mul-t12
-    shared-slice-read-t14
-    add-t21
-    mul-t22
-    shared-slice-read-t24
+    add-t12
+    mul-t14
+    shared-slice-read-t16
+    add-t23
+    mul-t24
+    shared-slice-read-t26
     sealed-requires
     returns-5)

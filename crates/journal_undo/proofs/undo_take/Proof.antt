@@ -4,13 +4,14 @@ use native.Mathlib.Omega.{arith}
 use borrow.Author.Needs.{needs}
 use lib.ListN.{length}
 use Rattle.network_queue.proofs.Inserting.{length-recs}
-use Rattle.network.proofs.Maps.{small}
+use Rattle.network.proofs.Structs.{small}
 use Rattle.journal_undo.proofs.Telling.{told-misfit, take-size, few-delivered, too-many, take-fits}
 use Rattle.journal_undo.proofs.Leaving.{take-leaves}
+use Rattle.network_queue.specs.Packed.{arraySize}
 use Rattle.journal_undo.proofs.undo_take.Statement.{statement}
 use Rattle.journal_undo.proofs.undo_take.Tie as tie
 
-long : (c : tie.Start) → length (c .args .network .words) ≡ 1024
+long : (c : tie.Start) → length (c .args .network .words) ≡ arraySize
 long c = search needs
 
 sub-size : tie.Need-sub-size
@@ -43,12 +44,12 @@ misfit-requires-3 c κs = search needs
 
 returns-3 : tie.Need-returns-3
 returns-3 c =
-    told-misfit (c .misfit3 .result) (c .before .before .before .before .before .before .pre .0) (c .misfit3 .ensures)
+    told-misfit (c .misfit3 .result) (c .before .before .before .before .before .before .before .pre .0) (c .misfit3 .ensures)
     (few-delivered _ _ _ _ _ _ refl (c .before .if3 .taken))
 
 add-if4 : tie.Need-add-if4
 add-if4 c =
-    let a = c .before .before .before .before .before in
+    let a = c .before .before .before .before .before .before in
     omega (arith, small (a .args .network) (a .pre .0))
 
 misfit-requires-4 : tie.Need-misfit-requires-4
@@ -56,34 +57,34 @@ misfit-requires-4 c κs = search needs
 
 returns-4 : tie.Need-returns-4
 returns-4 c =
-    let a = c .before .before .before .before .before .before .before in
+    let a = c .before .before .before .before .before .before .before .before in
     told-misfit (c .misfit4 .result) (a .pre .0) (c .misfit4 .ensures)
     (too-many _ _ _ _ _ _ refl
-    (omega (arith, c .before .if4 .taken, length-recs (a .args .network .words) 0 (a .args .network .pending))))
+    (omega (arith, c .before .if4 .taken, length-recs (a .args .network .words) 0 (a .args .network .head .pending))))
 
 put-back-requires : tie.Need-put-back-requires
 put-back-requires c κs = search needs
 
-add-me : tie.Need-add-me
-add-me c = search needs
+add-head : tie.Need-add-head
+add-head c = search needs
 
-sub-me : tie.Need-sub-me
-sub-me c = search needs
+sub-head : tie.Need-sub-head
+sub-head c = search needs
 
 sealed-requires : tie.Need-sealed-requires
 sealed-requires c κs = search needs
 
 returns-5 : tie.Need-returns-5
 returns-5 c =
-    let a = c .before .before .before .before .before .before .before .before .before in
+    let a = c .before .before .before .before .before .before .before .before .before .before .before .before in
     let s = a .args .network in (
       c .sealed .ensures .0
           ∙ (take-leaves s (a .pre .0) (long a) _ _ _ (length-recs (a .args .journal .now) (a .args .start) _)
-          (c .before .before .before .if4 .left)
-          (c .before .put-back .ensures)
+          (c .before .before .before .before .before .if4 .left)
+          (c .before .before .put-back .ensures)
           (a .args .start)
-          ∙ take-fits _ _ _ _ _ _ refl (omega arith) (omega arith) (c .before .before .before .before .if3 .left)
-          (omega (arith, c .before .before .before .if4 .left, length-recs (s .words) 0 (s .pending)))),
+          ∙ take-fits _ _ _ _ _ _ refl (omega (arith, c .before .before .before .before .before .before .before .before .before .if2 .left)) (omega (arith, a .pre .1, a .pre .2)) (c .before .before .before .before .before .before .if3 .left)
+          (omega (arith, c .before .before .before .before .before .if4 .left, length-recs (s .words) 0 (s .head .pending)))),
       c .sealed .ensures .1,
     )
 
@@ -104,7 +105,7 @@ undo-take-spec =
     misfit-requires-4
     returns-4
     put-back-requires
-    add-me
-    sub-me
+    add-head
+    sub-head
     sealed-requires
     returns-5)

@@ -3,16 +3,15 @@ use mathlib.Core.Path.{_≡_, sym, ap, _∙_}
 use mathlib.Core.Bool.{true, false}
 use borrow.Author.Tests.{not-true, not-false}
 use Rattle.nights.specs.Journal.{rewind}
-use Rattle.network.specs.declared.Head.{Head}
+use Rattle.network_form.specs.declared.Head.{Head}
 use Rattle.network.specs.declared.Network.{Network}
-use Rattle.network_fates.specs.Answers.{settledOf}
-use Rattle.network.specs.Forms.{joined}
+use Rattle.network_options.specs.Answers.{settledOf}
 use Rattle.journal_calls.specs.Calls.{answerOf}
 use Rattle.journal_calls.proofs.Journaled.{Met}
-use Rattle.network_words.specs.Layout.{headFits, networkIn}
+use Rattle.network_words.specs.Layout.{headFits}
+use Rattle.journal_words.specs.Calls.{networkIn, journalAnswer, joined}
 use Rattle.network_words.proofs.Heads.{told-fits, head-read}
-use Rattle.network_words.proofs.Told.{Kept, unread}
-use Rattle.journal_words.specs.Calls.{journalAnswer}
+use Rattle.journal_words.proofs.Told.{Kept, unread}
 use Rattle.journal_words.proofs.After.{Left, left, Written, wrote}
 use borrow.Author.Needs.{needs}
 use Rattle.journal_words.proofs.rewind.Statement.{statement}

@@ -4,15 +4,16 @@ use mathlib.Core.Bool.{true, false}
 use borrow.Author.Tests.{not-true, not-false}
 use Rattle.nights.specs.Draws.{Decided, decided}
 use Rattle.nights.specs.Journal.{Call}
-use Rattle.network.specs.declared.Head.{Head}
+use Rattle.network_form.specs.declared.Head.{Head}
 use Rattle.network.specs.declared.Network.{Network}
-use Rattle.network.specs.Answers.{sentOf, sending}
-use Rattle.network.specs.Forms.{plainOf, joined}
+use Rattle.network_send.specs.Sends.{sentOf, sending}
+use Rattle.network.specs.Forms.{plainOf}
 use Rattle.journal_calls.specs.Calls.{sends, answerOf, networkAfter, wordsAfter}
-use Rattle.network_words.specs.Layout.{headFits, networkIn}
+use Rattle.network_words.specs.Layout.{headFits}
+use Rattle.journal_words.specs.Calls.{networkIn, journalAnswer, joined}
 use Rattle.network_words.proofs.Heads.{told-fits, head-read}
-use Rattle.network_words.proofs.Told.{Kept, unread, sent-refused, sent-done, sent-told}
-use Rattle.journal_words.specs.Calls.{journalAnswer}
+use Rattle.journal_words.proofs.Told.{Kept, unread}
+use Rattle.network_words.proofs.Told.{sent-refused, sent-done, sent-told}
 use Rattle.journal_words.proofs.After.{Left, left, Written, wrote}
 use borrow.Author.Needs.{needs}
 use Rattle.journal_words.proofs.send.Statement.{statement}

@@ -7,23 +7,25 @@ use borrow.Author.Tests.{not-true, not-false}
 use denote.Floats.{passes}
 use Rattle.chance.specs.Probability.{goodWord}
 use Rattle.nights.specs.Net.{Options, choose, goodOptions}
-use Rattle.nights.specs.Journal.{Answer, refused, verdict, optionTests}
+use Rattle.nights.specs.Tests.{Answer, refused, verdict, optionTests}
 use Rattle.basis.proofs.Laws.{both}
-use Rattle.network.specs.declared.Head.{Head}
+use Rattle.network_form.specs.declared.Head.{Head}
 use Rattle.network.specs.declared.Network.{Network}
-use Rattle.network_fates.specs.Answers.{settledOf}
-use Rattle.network_fates.specs.Options.{plainOptions}
-use Rattle.network.specs.Forms.{joined, headOf, isFormed}
+use Rattle.network_options.specs.Answers.{settledOf}
+use Rattle.network_options.specs.Options.{plainOptions}
+use Rattle.network.specs.Forms.{isFormed}
 use Rattle.network.specs.Calls.{callAnswer}
-use Rattle.network_fates.proofs.OptionForms.{good-done}
-use Rattle.network.proofs.Calling.{call-ill}
+use Rattle.network_options.proofs.OptionForms.{good-done}
+use Rattle.network.proofs.Structs.{call-ill}
 use Rattle.journal_calls.specs.Calls.{chooses, answerOf}
 use Rattle.journal_calls.proofs.Journaled.{Met, refused-first}
-use Rattle.network_words.specs.Layout.{headFits, headWords, optionsFrom, networkIn}
+use Rattle.network_words.specs.Layout.{headFits, headWords, optionsFrom}
+use Rattle.journal_words.specs.Calls.{networkIn, journalAnswer, joined}
 use Rattle.network_words.proofs.Heads.{told-fits, head-read}
-use Rattle.network_words.proofs.Told.{Kept, unread, read-kept, number-refused}
-use Rattle.network_words.proofs.InPlace.{formed-options, number-done, plain-back, chosen-answer}
-use Rattle.journal_words.specs.Calls.{journalAnswer}
+use Rattle.journal_words.proofs.Told.{Kept, unread, read-kept}
+use Rattle.network_words.proofs.Told.{number-refused}
+use Rattle.network_words.proofs.InPlace.{number-done, plain-back, chosen-answer}
+use Rattle.network.proofs.Structs.{formed-options}
 use Rattle.journal_words.proofs.After.{Left, left, Written, wrote}
 use borrow.Author.Needs.{needs}
 use Rattle.journal_words.proofs.set_options.Statement.{statement}
@@ -41,7 +43,7 @@ answer c = answerOf (chooses (asked c)) (whole c) (c .args .journal .now)
 fits : (c : tie.Else1) → headFits (c .before .before .before .before .before .args .head .now) ≡ true
 fits c = told-fits _ _ (c .before .before .load .ensures) true (not-false _ (c .if1 .left))
 
-head-is : (c : tie.Else1) → c .before .before .load .result .head ≡ headOf (whole (c .before .before .before .before .before))
+head-is : (c : tie.Else1) → c .before .before .load .result .head ≡ whole (c .before .before .before .before .before) .head
 head-is c = head-read _ _ (c .before .before .load .ensures) (fits c)
 
 -- ---- the plain change is refused, and so is the journal's
@@ -140,20 +142,17 @@ enum-known-answer c = search needs
 enum-told : tie.Need-enum-told
 enum-told c = search needs
 
-head-requires : tie.Need-head-requires
-head-requires c κs = search needs
-
 store-requires : tie.Need-store-requires
 store-requires c κs =
-    ap (λ (h : Head). goodOptions (plainOptions (h .options))) (c .before .head .ensures) ∙ formed-options _ (changed (c .before .before .before) .formed)
+    formed-options _ (changed (c .before .before) .formed)
 
 same-length : tie.Need-same-length
 same-length c = search needs
 
 returns-4 : tie.Need-returns-4
 returns-4 c =
-    let w = changed (c .before .before .before .before) in
-    (w .finished .number, (c .store .ensures ∙ (ap headWords (c .before .before .head .ensures) ∙ w .head), w .journal))
+    let w = changed (c .before .before .before) in
+    (w .finished .number, (c .store .ensures ∙ w .head, w .journal))
 
 number-of-requires : tie.Need-number-of-requires
 number-of-requires c κs = search needs
@@ -187,7 +186,6 @@ set-options-spec =
     set-options-requires
     enum-known-answer
     enum-told
-    head-requires
     store-requires
     same-length
     returns-4

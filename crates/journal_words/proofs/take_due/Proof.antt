@@ -5,19 +5,21 @@ use borrow.Author.Tests.{not-true, not-false}
 use Prim.Native.Nat.{ℕ}
 use mathlib.Core.List.{List, [], _∷_}
 use lib.ListN.{length}
-use Rattle.nights.specs.Record.{Record, wordsOf}
+use Rattle.nights.specs.Record.{Record, recordWords}
 use Rattle.nights.specs.Net.{keep, isDue}
-use Rattle.nights.specs.Journal.{Answer, Call}
-use Rattle.network.specs.declared.Head.{Head}
+use Rattle.nights.specs.Tests.{Answer}
+use Rattle.nights.specs.Journal.{Call}
+use Rattle.network_form.specs.declared.Head.{Head}
 use Rattle.network.specs.declared.Network.{Network}
-use Rattle.network.specs.Answers.{countedOf, counting}
-use Rattle.network.specs.Forms.{plainOf, joined}
-use Rattle.network.specs.Calls.{written}
+use Rattle.network_take.specs.Takes.{countedOf, counting}
+use Rattle.network.specs.Forms.{plainOf}
+use Rattle.network_form.specs.Calls.{written}
 use Rattle.journal_calls.specs.Calls.{takes, answerOf, networkAfter, wordsAfter}
-use Rattle.network_words.specs.Layout.{headFits, networkIn}
+use Rattle.network_words.specs.Layout.{headFits}
+use Rattle.journal_words.specs.Calls.{networkIn, journalAnswer, joined}
 use Rattle.network_words.proofs.Heads.{told-fits, head-read, a-head}
-use Rattle.network_words.proofs.Told.{Kept, unread, taken-refused, taken-done, taken-told}
-use Rattle.journal_words.specs.Calls.{journalAnswer}
+use Rattle.journal_words.proofs.Told.{Kept, unread}
+use Rattle.network_words.proofs.Told.{taken-refused, taken-done, taken-told}
 use Rattle.journal_words.proofs.After.{Left, left, Written, wrote}
 use borrow.Author.Needs.{needs}
 use Rattle.journal_words.proofs.take_due.Statement.{statement}
@@ -50,7 +52,7 @@ start c = c .before .before .before .before .before .before .before .before .bef
 record Called (c : tie.After-take-due) : Type 0 where
   network : c .take-due .result .network ≡ networkAfter (call (start c)) (whole (start c)) (start c .args .journal .now)
   tells : countedOf (c .take-due .result .answer) ≡ counting (answer (start c)) (length (due (start c)))
-  out : c .take-due .last .1 .1 .0 ≡ written (journalAnswer (call (start c)) (start c .args .head .now) (start c .args .records .now) (start c .args .journal .now)) (wordsOf (due (start c))) (start c .args .out .now)
+  out : c .take-due .last .1 .1 .0 ≡ written (journalAnswer (call (start c)) (start c .args .head .now) (start c .args .records .now) (start c .args .journal .now)) (recordWords (due (start c))) (start c .args .out .now)
   words : c .take-due .last .1 .1 .1 .0 ≡ wordsAfter (call (start c)) (whole (start c)) (start c .args .journal .now)
 
 called : (c : tie.After-take-due) → Called c
@@ -73,7 +75,7 @@ returns c =
     let b = c .before .before .before .before .before .before in
     let k : Kept (journalAnswer (call b) (b .args .head .now) (b .args .records .now) (b .args .journal .now)) 23 =
     unread _ (answer b) (told-fits _ _ (c .before .before .load .ensures) false (not-true _ (c .if1 .taken))) in
-    (k .number, (k .words _ _, (k .words _ _, (k .out _ _, (k .words _ _, k .words _ _)))))
+    (k .number, (k .words _ _, (k .words _ _, (k .words _ _, (k .words _ _, k .words _ _)))))
 
 read-requires : tie.Need-read-requires
 read-requires c κs = search needs

@@ -1,20 +1,20 @@
 -- `network_batch::send_all` meets its contract: what is left to send, from what has been sent, leaves what the whole leaves. Assumes nothing.
 use Prim.Native.Nat.{ℕ, _+_, _-_, _≤_}
-use mathlib.Core.Path.{_≡_, sym, ap, _∙_}
+use mathlib.Core.Path.{_≡_, sym, ap, subst, _∙_}
 use native.Mathlib.Omega.{arith}
 use borrow.Author.Needs.{needs}
 use mathlib.Core.List.{List}
 use lib.ListN.{length, take, drop, getD}
-use Rattle.nights.specs.Net.{Plain as Call}
-use Rattle.network.specs.declared.Network.{Network}
-use Rattle.network.specs.Forms.{joined}
-use Rattle.network.specs.Calls.{callAnswer, callNetwork}
-use Rattle.network.specs.Answers.{sentOf, sending}
-use Rattle.nights.specs.Draws.{Decided}
-use Rattle.nights.specs.Journal.{done}
+use Rattle.nights.specs.Net.{Change, Letter, send}
+use Rattle.nights.specs.Draws.{Decided, decided}
+use Rattle.network_options.specs.Options.{plainOptions}
+use Rattle.network_form.specs.declared.Head.{Head}
+use Rattle.network_form.specs.Calls.{answerIn, headAfter, recordsAfter}
+use Rattle.network_send.specs.Sends.{plainLetter, sentOf, sending, sendTells}
+use Rattle.nights.specs.Tests.{done}
 use Rattle.network_words.proofs.Told.{sent-refused, sent-done, sent-told}
-use Rattle.network_batch.specs.Ticks.{stopped, sendsFrom, drawnBy}
-use Rattle.network_batch.proofs.Sending.{Whole, callAt, rest, within-left, stays-whole, turn-goes, turn-stops, all-sent, ran-stopped}
+use Rattle.network_batch.specs.Ticks.{stopped, sendsFrom, letterAt, callAt, drawnBy}
+use Rattle.network_batch.proofs.Sending.{Whole, rest, within-left, stays-whole, whole-again, turn-goes, turn-stops, all-sent, ran-stopped}
 use Rattle.network_batch.proofs.Using.{Modest, modest, number-over}
 use Rattle.network_batch.proofs.send_all.Statement.{statement}
 use Rattle.network_batch.proofs.send_all.Tie as tie
@@ -22,59 +22,74 @@ use Rattle.network_batch.proofs.send_all.Tie as tie
 abbrev Inv-loop : tie.InvT-loop
 Inv-loop records₀ sends count draws extras me₀ drawn₀ added₀ i₀ records me drawn added i =
     (i ≤ count)
-    × (Whole (joined me records)
+    × (Whole me records
     × ((drawn ≤ length draws)
     × ((added ≤ length extras)
-    × (sendsFrom sends draws extras count 0 0 0 (joined me₀ records₀) ≡ sendsFrom sends draws extras (count - i) i drawn added (joined me records)))))
+    × (sendsFrom sends draws extras count 0 0 0 me₀ records₀ ≡ sendsFrom sends draws extras (count - i) i drawn added me records))))
 
 abbrev μ-loop : tie.MeasureT-loop
 μ-loop records₀ sends count draws extras me₀ drawn₀ added₀ i₀ records me drawn added i = count - i
 
 -- ---- once a message was sent
 
-abbrev at : tie.After-send-at Inv-loop μ-loop → tie.At-loop Inv-loop μ-loop
-at c = c .before .before .before .before .before
+abbrev in-loop : tie.After-send-on Inv-loop μ-loop → tie.In-loop Inv-loop μ-loop
+in-loop c = c .before .before .before .before .before
 
-abbrev start : tie.After-send-at Inv-loop μ-loop → tie.Start Inv-loop μ-loop
+abbrev at : tie.After-send-on Inv-loop μ-loop → tie.At-loop Inv-loop μ-loop
+at c = in-loop c .before
+
+abbrev start : tie.After-send-on Inv-loop μ-loop → tie.Start Inv-loop μ-loop
 start c = at c .before .before .before .before
 
-abbrev state : tie.After-send-at Inv-loop μ-loop → Network
-state c = joined (at c .loop .me) (at c .loop .records)
+abbrev me : tie.After-send-on Inv-loop μ-loop → Head
+me c = at c .loop .me
 
-abbrev call : tie.After-send-at Inv-loop μ-loop → Call
+abbrev words : tie.After-send-on Inv-loop μ-loop → List ℕ
+words c = at c .loop .records
+
+abbrev call : tie.After-send-on Inv-loop μ-loop → Change
 call c = callAt (start c .args .sends .now) (start c .args .draws .now) (start c .args .extras .now) (at c .loop .i) (at c .loop .drawn) (at c .loop .added)
 
-abbrev used : tie.After-send-at Inv-loop μ-loop → Decided
+abbrev used : tie.After-send-on Inv-loop μ-loop → Decided
 used c =
-    drawnBy (start c .args .sends .now) (start c .args .draws .now) (start c .args .extras .now) (at c .loop .i) (at c .loop .drawn) (at c .loop .added)
-    (state c)
+    drawnBy (start c .args .sends .now) (start c .args .draws .now) (start c .args .extras .now) (at c .loop .i) (at c .loop .drawn) (at c .loop .added) (me c)
 
 -- the draws and the extras that were lent are what is left of them
-left-draws : (c : tie.After-send-at Inv-loop μ-loop) → let a = start c .args in let d = at c .loop .drawn in take (length (a .draws .now) - d) (drop d (a .draws .now)) ≡ drop d (a .draws .now)
+left-draws : (c : tie.After-send-on Inv-loop μ-loop) → let a = start c .args in let d = at c .loop .drawn in take (length (a .draws .now) - d) (drop d (a .draws .now)) ≡ drop d (a .draws .now)
 left-draws c = rest (start c .args .draws .now) (at c .loop .drawn)
 
-left-extras : (c : tie.After-send-at Inv-loop μ-loop) → let a = start c .args in let x = at c .loop .added in take (length (a .extras .now) - x) (drop x (a .extras .now)) ≡ drop x (a .extras .now)
+left-extras : (c : tie.After-send-on Inv-loop μ-loop) → let a = start c .args in let x = at c .loop .added in take (length (a .extras .now) - x) (drop x (a .extras .now)) ≡ drop x (a .extras .now)
 left-extras c = rest (start c .args .extras .now) (at c .loop .added)
 
-inside : (c : tie.After-send-at Inv-loop μ-loop) → joined (c .send-at .result .head) (c .send-at .last .0) ≡ callNetwork (call c) (state c)
-inside c = rw (left-draws c, left-extras c) at (c .send-at .ensures .0)
+-- what a send of a letter leaves and tells
+abbrev Made : (c : tie.After-send-on Inv-loop μ-loop) (m : Letter) (draws extras : List ℕ) → Type 0
+Made c m draws extras =
+    (c .send-on .result .head ≡ headAfter (send m draws extras) (me c) (words c))
+    × ((c .send-on .last .0 ≡ recordsAfter (send m draws extras) (me c) (words c))
+    × (sentOf (c .send-on .result .answer) ≡ sendTells m draws extras (me c) (words c)))
 
-tells : (c : tie.After-send-at Inv-loop μ-loop) → sentOf (c .send-at .result .answer) ≡ sending (callAnswer (call c) (state c)) (used c)
-tells c = rw (left-draws c, left-extras c) at (c .send-at .ensures .1)
+-- it was that of the message at the place, with what is left of the draws and extras
+made : (c : tie.After-send-on Inv-loop μ-loop) → let a = start c .args in
+    Made c (letterAt (a .sends .now) (at c .loop .i)) (drop (at c .loop .drawn) (a .draws .now)) (drop (at c .loop .added) (a .extras .now))
+made c =
+    let a = start c .args in
+    subst (λ (m : Letter). Made c m (drop (at c .loop .drawn) (a .draws .now)) (drop (at c .loop .added) (a .extras .now)))
+    (c .before .before .before .before .letter-at .ensures)
+    (rw (left-draws c, left-extras c) at (c .send-on .ensures))
 
 -- ---- and accepted
 
-abbrev sent : tie.After-answer2 Inv-loop μ-loop → tie.After-send-at Inv-loop μ-loop
+abbrev sent : tie.After-answer2 Inv-loop μ-loop → tie.After-send-on Inv-loop μ-loop
 sent c = c .before .before
 
-accepted : (c : tie.After-answer2 Inv-loop μ-loop) → callAnswer (call (sent c)) (state (sent c)) ≡ done
-accepted c = sent-done _ _ _ (tells (sent c)) _ _ _ _ (c .answer2 .given .1)
+accepted : (c : tie.After-answer2 Inv-loop μ-loop) → answerIn (call (sent c)) (me (sent c)) (words (sent c)) ≡ done
+accepted c = sent-done _ _ _ (made (sent c) .1 .1) _ _ _ _ (c .answer2 .given .1)
 
 more-draws : (c : tie.After-answer2 Inv-loop μ-loop) → c .answer2 .given .0 .1 .1 .0 ≡ used (sent c) .draws
-more-draws c = ap (λ (l : List ℕ). getD l 2 0) (sent-told _ _ _ (tells (sent c)) _ _ _ _ (c .answer2 .given .1))
+more-draws c = ap (λ (l : List ℕ). getD l 2 0) (sent-told _ _ _ (made (sent c) .1 .1) _ _ _ _ (c .answer2 .given .1))
 
 more-extras : (c : tie.After-answer2 Inv-loop μ-loop) → c .answer2 .given .0 .1 .1 .1 .0 ≡ used (sent c) .extras
-more-extras c = ap (λ (l : List ℕ). getD l 3 0) (sent-told _ _ _ (tells (sent c)) _ _ _ _ (c .answer2 .given .1))
+more-extras c = ap (λ (l : List ℕ). getD l 3 0) (sent-told _ _ _ (made (sent c) .1 .1) _ _ _ _ (c .answer2 .given .1))
 
 modestly : (c : tie.After-answer2 Inv-loop μ-loop) → Modest (drop (at (sent c) .loop .drawn) (start (sent c) .args .draws .now)) (drop (at (sent c) .loop .added) (start (sent c) .args .extras .now)) (used (sent c))
 modestly c = modest _ _ _ _ _
@@ -93,34 +108,37 @@ loop-holds c =
     let z : b .args .count - 0 ≡ b .args .count = omega arith in
     (omega arith, (record { formed = b .pre .1; long = b .pre .0 }, (omega arith, (omega arith, rw z))))
 
-mul-send-at : tie.Need-mul-send-at Inv-loop μ-loop
-mul-send-at c = omega arith
+letter-at-requires : tie.Need-letter-at-requires Inv-loop μ-loop
+letter-at-requires c κs = omega (arith, c .before .before .before .before .before .pre .2)
 
-sub-send-at : tie.Need-sub-send-at Inv-loop μ-loop
-sub-send-at c = omega arith
+mul-send-on : tie.Need-mul-send-on Inv-loop μ-loop
+mul-send-on c = omega arith
 
-part-send-at-start : tie.Need-part-send-at-start Inv-loop μ-loop
-part-send-at-start c = omega arith
+sub-send-on : tie.Need-sub-send-on Inv-loop μ-loop
+sub-send-on c = omega arith
 
-part-send-at-end : tie.Need-part-send-at-end Inv-loop μ-loop
-part-send-at-end c = omega arith
+part-send-on-start : tie.Need-part-send-on-start Inv-loop μ-loop
+part-send-on-start c = omega arith
 
-mul-send-at-2 : tie.Need-mul-send-at-2 Inv-loop μ-loop
-mul-send-at-2 c = omega arith
+part-send-on-end : tie.Need-part-send-on-end Inv-loop μ-loop
+part-send-on-end c = omega arith
 
-sub-send-at-2 : tie.Need-sub-send-at-2 Inv-loop μ-loop
-sub-send-at-2 c = omega arith
+mul-send-on-2 : tie.Need-mul-send-on-2 Inv-loop μ-loop
+mul-send-on-2 c = omega arith
 
-part-send-at-start-2 : tie.Need-part-send-at-start-2 Inv-loop μ-loop
-part-send-at-start-2 c = omega arith
+sub-send-on-2 : tie.Need-sub-send-on-2 Inv-loop μ-loop
+sub-send-on-2 c = omega arith
 
-part-send-at-end-2 : tie.Need-part-send-at-end-2 Inv-loop μ-loop
-part-send-at-end-2 c = omega arith
+part-send-on-start-2 : tie.Need-part-send-on-start-2 Inv-loop μ-loop
+part-send-on-start-2 c = omega arith
 
-send-at-requires : tie.Need-send-at-requires Inv-loop μ-loop
-send-at-requires c κs =
-    let l = c .before .before .before .before in
-    (l .loop .inv .1 .0 .long, l .loop .inv .1 .0 .formed, omega (arith, l .before .before .before .before .pre .2))
+part-send-on-end-2 : tie.Need-part-send-on-end-2 Inv-loop μ-loop
+part-send-on-end-2 c = omega arith
+
+send-on-requires : tie.Need-send-on-requires Inv-loop μ-loop
+send-on-requires c κs =
+    let l = c .before .before .before .before .before in
+    (l .loop .inv .1 .0 .long, l .loop .inv .1 .0 .formed)
 
 enum-known-answer : tie.Need-enum-known-answer Inv-loop μ-loop
 enum-known-answer c = search needs
@@ -138,7 +156,7 @@ returns c =
     ∙ (ap (λ (k : ℕ). stopped k (l .i)) (c .number-of .ensures)
     ∙ sym
     (l .inv .1 .1 .1 .1
-    ∙ turn-stops (a .sends .now) (a .draws .now) (a .extras .now) (a .count) (l .i) (l .drawn) (l .added) (state x) (x .before .before .before .before .loop-test .taken) _ (sent-refused _ _ _ (tells x) _ (r .1))))
+    ∙ turn-stops (a .sends .now) (a .draws .now) (a .extras .now) (a .count) (l .i) (l .drawn) (l .added) (me x) (words x) (in-loop x .loop-test .taken) _ (sent-refused _ _ _ (made x .1 .1) _ (r .1))))
 
 enum-known-answer-2 : tie.Need-enum-known-answer-2 Inv-loop μ-loop
 enum-known-answer-2 c = search needs
@@ -150,7 +168,7 @@ add-added : tie.Need-add-added Inv-loop μ-loop
 add-added c = omega (arith, added-within (c .before .before), start (sent (c .before .before)) .good)
 
 add-i : tie.Need-add-i Inv-loop μ-loop
-add-i c = omega arith
+add-i c = let x = sent (c .before .before) in omega (arith, in-loop x .loop-test .taken, start x .good)
 
 loop-less : tie.Need-loop-less Inv-loop μ-loop
 loop-less c = omega arith
@@ -161,16 +179,16 @@ loop-again c =
     let x = sent y in
     let l = at x .loop in
     let a = start x .args in
-    let t : x .before .before .before .before .before .loop .i + 1 ≤ a .count = omega (arith, x .before .before .before .before .loop-test .taken) in (
+    let t : l .i + 1 ≤ a .count = omega (arith, in-loop x .loop-test .taken) in (
       t,
       (
-        rw (inside x) (stays-whole (call x) (state x) (accepted y)),
+        whole-again _ _ _ _ (made x .0) (made x .1 .0) (stays-whole (call x) (me x) (words x) (accepted y)),
         (
           drawn-within y,
           (
             added-within y,
             l .inv .1 .1 .1 .1
-                ∙ turn-goes (a .sends .now) (a .draws .now) (a .extras .now) (a .count) (l .i) (l .drawn) (l .added) (state x) (x .before .before .before .before .loop-test .taken) (accepted y) _ _ (more-draws y) (more-extras y) _ (inside x),
+                ∙ turn-goes (a .sends .now) (a .draws .now) (a .extras .now) (a .count) (l .i) (l .drawn) (l .added) (me x) (words x) (in-loop x .loop-test .taken) (accepted y) _ _ (more-draws y) (more-extras y) _ _ (made x .0) (made x .1 .0),
           ),
         ),
       ),
@@ -183,7 +201,7 @@ returns-2 c =
     let a = b .args in
     sym
     (l .inv .1 .1 .1 .1
-    ∙ all-sent (a .sends .now) (a .draws .now) (a .extras .now) (a .count) (l .i) (l .drawn) (l .added) (joined (l .me) (l .records)) (c .loop-test .left))
+    ∙ all-sent (a .sends .now) (a .draws .now) (a .extras .now) (a .count) (l .i) (l .drawn) (l .added) (l .me) (l .records) (c .loop-test .left))
 
 pub send-all-spec : {M : Type 1} → statement M
 send-all-spec =
@@ -192,15 +210,16 @@ send-all-spec =
     Inv-loop
     μ-loop
     loop-holds
-    mul-send-at
-    sub-send-at
-    part-send-at-start
-    part-send-at-end
-    mul-send-at-2
-    sub-send-at-2
-    part-send-at-start-2
-    part-send-at-end-2
-    send-at-requires
+    letter-at-requires
+    mul-send-on
+    sub-send-on
+    part-send-on-start
+    part-send-on-end
+    mul-send-on-2
+    sub-send-on-2
+    part-send-on-start-2
+    part-send-on-end-2
+    send-on-requires
     enum-known-answer
     number-of-requires
     returns

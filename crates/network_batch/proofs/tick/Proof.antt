@@ -5,17 +5,17 @@ use mathlib.Core.Bool.{Bool, true, false}
 use native.Mathlib.Omega.{arith}
 use borrow.Author.Tests.{not-true, not-false}
 use lib.ListN.{length}
-use Rattle.nights.specs.Net.{Plain as Call, take as takes}
-use Rattle.nights.specs.Journal.{done}
-use Rattle.network.specs.declared.Head.{Head}
-use Rattle.network.specs.declared.Network.{Network}
-use Rattle.network.specs.Forms.{joined, isFormed}
-use Rattle.network.specs.Calls.{callAnswer}
-use Rattle.network_words.specs.Layout.{headFits, headIn, networkIn}
+use Rattle.nights.specs.Net.{Change, collect, goodOptions}
+use Rattle.nights.specs.Tests.{done}
+use Rattle.network_options.specs.Options.{plainOptions}
+use Rattle.network_form.specs.declared.Head.{Head}
+use Rattle.network_form.specs.Forms.{formedIn}
+use Rattle.network_form.specs.Calls.{answerIn}
+use Rattle.network_form.proofs.Laws.{stays-good}
+use Rattle.network_words.specs.Layout.{headFits, headIn}
 use Rattle.network_words.proofs.Heads.{told-fits, head-read}
 use Rattle.network_words.proofs.Told.{taken-refused, taken-done, taken-told}
-use Rattle.network_words.proofs.InPlace.{good-head}
-use Rattle.network_batch.specs.Ticks.{numberAt, all, sendsFrom, ranOf}
+use Rattle.network_batch.specs.Ticks.{messageWords, mostMessages, numberAt, all, sendsFrom, ranOf}
 use Rattle.network_batch.proofs.Using.{number-under}
 use Rattle.network_batch.proofs.Sending.{Whole, Stop, stop, leaves, ran-stopped, ran-all}
 use Rattle.network_batch.proofs.Ticking.{unread, ill-formed, too-many, broken, send-refused, take-refused, all-done}
@@ -33,10 +33,10 @@ fits c = told-fits _ _ (c .before .before .load .ensures) true (not-false _ (c .
 head-is : (c : tie.After-formed) → c .before .before .before .before .before .before .load .result .head ≡ headIn (c .before .before .before .before .before .before .before .before .before .before .before .before .args .head .now)
 head-is c = head-read _ _ (c .before .before .before .before .before .before .load .ensures) (fits (c .before .before .before .before))
 
-is-formed : (c : tie.After-formed) (b : Bool) → c .formed .result ≡ b → let a = c .before .before .before .before .before .before .before .before .before .before .before .before .args in isFormed (networkIn (a .head .now) (a .records .now)) ≡ b
-is-formed c b e = ap (λ (h : Head). isFormed (joined h (c .before .before .before .before .before .before .before .before .before .before .before .before .args .records .now))) (sym (head-is c)) ∙ (sym (c .formed .ensures) ∙ e)
+is-formed : (c : tie.After-formed) (b : Bool) → c .formed .result ≡ b → let a = c .before .before .before .before .before .before .before .before .before .before .before .before .args in formedIn (headIn (a .head .now)) (a .records .now) ≡ b
+is-formed c b e = ap (λ (h : Head). formedIn h (c .before .before .before .before .before .before .before .before .before .before .before .before .args .records .now)) (sym (head-is c)) ∙ (sym (c .formed .ensures) ∙ e)
 
-well : (c : tie.Else2) → let a = c .before .before .before .before .before .before .before .before .before .before .before .before .before .args in isFormed (networkIn (a .head .now) (a .records .now)) ≡ true
+well : (c : tie.Else2) → let a = c .before .before .before .before .before .before .before .before .before .before .before .before .before .args in formedIn (headIn (a .head .now)) (a .records .now) ≡ true
 well c = is-formed (c .before) true (not-false _ (c .if2 .left))
 
 -- ---- the messages were sent
@@ -50,36 +50,36 @@ else1 x = x .before .before .before .before .before .before .before .before .bef
 abbrev else2 : tie.After-send-all → tie.Else2
 else2 x = x .before .before .before .before .before
 
-few : (x : tie.After-send-all) → length (start x .args .sends .now) / 6 ≤ 65536
+few : (x : tie.After-send-all) → length (start x .args .sends .now) / messageWords ≤ mostMessages
 few x = x .before .before .before .before .if3 .left
 
-even : (x : tie.After-send-all) → length (start x .args .sends .now) ≡ 6 * (length (start x .args .sends .now) / 6)
+even : (x : tie.After-send-all) → length (start x .args .sends .now) ≡ messageWords * (length (start x .args .sends .now) / messageWords)
 even x = omega (arith, x .before .before .before .if4 .left)
 
 ran : (x : tie.After-send-all) → let a = start x .args in
-    ranOf (x .send-all .result) (x .send-all .last .0) ≡ sendsFrom (a .sends .now) (a .draws .now) (a .extras .now) (length (a .sends .now) / 6) 0 0 0 (networkIn (a .head .now) (a .records .now))
+    ranOf (x .send-all .result) (x .send-all .last .0) ≡ sendsFrom (a .sends .now) (a .draws .now) (a .extras .now) (length (a .sends .now) / messageWords) 0 0 0 (headIn (a .head .now)) (a .records .now)
 ran x =
     let a = start x .args in
     x .send-all .ensures
-    ∙ ap (λ (h : Head). sendsFrom (a .sends .now) (a .draws .now) (a .extras .now) (length (a .sends .now) / 6) 0 0 0 (joined h (a .records .now))) (head-is (x .before .before .before .before .before .before))
+    ∙ ap (λ (h : Head). sendsFrom (a .sends .now) (a .draws .now) (a .extras .now) (length (a .sends .now) / messageWords) 0 0 0 h (a .records .now)) (head-is (x .before .before .before .before .before .before))
 
-stopping : (x : tie.After-send-all) → (x .send-all .result .refusal ≡ 0 → ⊥) → Stop 0 (length (start x .args .sends .now) / 6) (x .send-all .result .refusal) (x .send-all .result .place)
+stopping : (x : tie.After-send-all) → (x .send-all .result .refusal ≡ 0 → ⊥) → Stop 0 (length (start x .args .sends .now) / messageWords) (x .send-all .result .refusal) (x .send-all .result .place)
 stopping x n =
     let a = start x .args in
-    stop (a .sends .now) (a .draws .now) (a .extras .now) (length (a .sends .now) / 6) 0 0 0 (networkIn (a .head .now) (a .records .now)) _ _ (sym (ran x) ∙ ran-stopped _ _ n)
+    stop (a .sends .now) (a .draws .now) (a .extras .now) (length (a .sends .now) / messageWords) 0 0 0 (headIn (a .head .now)) (a .records .now) _ _ (sym (ran x) ∙ ran-stopped _ _ n)
 
 -- ---- all of them
 
 all-sent : (c : tie.Else5) → let x = c .before .before in let a = start x .args in let t = x .send-all .result in
-    sendsFrom (a .sends .now) (a .draws .now) (a .extras .now) (length (a .sends .now) / 6) 0 0 0 (networkIn (a .head .now) (a .records .now)) ≡ all (joined (t .head) (x .send-all .last .0)) (t .draws) (t .extras)
+    sendsFrom (a .sends .now) (a .draws .now) (a .extras .now) (length (a .sends .now) / messageWords) 0 0 0 (headIn (a .head .now)) (a .records .now) ≡ all (t .head) (x .send-all .last .0) (t .draws) (t .extras)
 all-sent c = sym (ran (c .before .before)) ∙ ran-all _ _ (c .if5 .left)
 
-whole : (c : tie.Else5) → Whole (joined (c .before .before .send-all .result .head) (c .before .before .send-all .last .0))
+whole : (c : tie.Else5) → Whole (c .before .before .send-all .result .head) (c .before .before .send-all .last .0)
 whole c =
     let x = c .before .before in
     let a = start x .args in
-    leaves (a .sends .now) (a .draws .now) (a .extras .now) (length (a .sends .now) / 6) 0 0 0 (networkIn (a .head .now) (a .records .now))
-    (record { formed = well (else2 x); long = x .before .before .before .before .before .before .before .before .whole .ensures }) _ _ _ (all-sent c)
+    leaves (a .sends .now) (a .draws .now) (a .extras .now) (length (a .sends .now) / messageWords) 0 0 0 (headIn (a .head .now)) (a .records .now)
+    (record { formed = well (else2 x); long = x .before .before .before .before .before .before .before .before .whole .ensures }) _ _ _ _ (all-sent c)
 
 -- ---- what was due was taken
 
@@ -89,14 +89,14 @@ then y = y .before .before .before
 abbrev sent : tie.After-take-on → tie.After-send-all
 sent y = then y .before .before
 
-abbrev state : tie.After-take-on → Network
-state y = joined (sent y .send-all .result .head) (sent y .send-all .last .0)
+abbrev left : tie.After-take-on → Head
+left y = sent y .send-all .result .head
 
-abbrev call : tie.After-take-on → Call
-call y = takes (start (sent y) .args .now) (length (start (sent y) .args .out .now))
+abbrev call : tie.After-take-on → Change
+call y = collect (start (sent y) .args .now) (length (start (sent y) .args .out .now))
 
-accepted : (c : tie.After-answer2) → let y = c .before .before .before .before in callAnswer (call y) (state y) ≡ done
-accepted c = taken-done _ _ _ (c .before .before .before .before .take-on .ensures .1 .0) _ (c .answer2 .given .1)
+accepted : (c : tie.After-answer2) → let y = c .before .before .before .before in answerIn (call y) (left y) (sent y .send-all .last .0) ≡ done
+accepted c = taken-done _ _ _ (c .before .before .before .before .take-on .ensures .1 .1 .0) _ (c .answer2 .given .1)
 
 load-requires : tie.Need-load-requires
 load-requires c κs = search needs
@@ -179,7 +179,7 @@ enum-known-answer-2 c = search needs
 store-requires : tie.Need-store-requires
 store-requires c κs =
     let y = c .before .before .before .before .before .before in
-    good-head (call y) (state y) _ _ (y .take-on .ensures .0) (accepted (c .before .before))
+    ap (λ (h : Head). goodOptions (plainOptions (h .options))) (y .take-on .ensures .0) ∙ stays-good _ _ _ (accepted (c .before .before))
 
 same-length : tie.Need-same-length
 same-length c = search needs
@@ -189,8 +189,8 @@ returns-6 c =
     let y = c .before .before .before .before .before .before .before in
     let x = sent y in
     let a = start x .args in
-    take-refused (a .head .now) (a .records .now) (a .sends .now) (a .draws .now) (a .extras .now) (a .now) (a .out .now) (a .told .now) (fits (else1 x)) (well (else2 x)) (few x) (even x) (state y) _ _ (all-sent (then y)) _ (taken-refused _ _ _ (y .take-on .ensures .1 .0) _ (c .before .before .before .answer .given .1)) _
-    (c .at6 .ensures ∙ ap (λ (k : ℕ). numberAt k (length (a .sends .now) / 6)) (c .before .number-of .ensures)) _ (y .take-on .ensures .1 .1)
+    take-refused (a .head .now) (a .records .now) (a .sends .now) (a .draws .now) (a .extras .now) (a .now) (a .out .now) (a .told .now) (fits (else1 x)) (well (else2 x)) (few x) (even x) (left y) _ _ _ (all-sent (then y)) _ (taken-refused _ _ _ (y .take-on .ensures .1 .1 .0) _ (c .before .before .before .answer .given .1)) _
+    (c .at6 .ensures ∙ ap (λ (k : ℕ). numberAt k (length (a .sends .now) / messageWords)) (c .before .number-of .ensures)) _ (y .take-on .ensures .1 .1 .1)
 
 same-length-2 : tie.Need-same-length-2
 same-length-2 c = search needs
@@ -200,8 +200,8 @@ returns-7 c =
     let y = c .before .before .before .before .before .before .before .before in
     let x = sent y in
     let a = start x .args in
-    all-done (a .head .now) (a .records .now) (a .sends .now) (a .draws .now) (a .extras .now) (a .now) (a .out .now) (a .told .now) (fits (else1 x)) (well (else2 x)) (few x) (even x) (state y) _ _ (all-sent (then y)) (accepted (c .before .before .before .before)) _ _ (y .take-on .ensures .0) _ _ (c .before .store .ensures) (y .take-on .ensures .1 .1) _
-    (taken-told _ _ _ (y .take-on .ensures .1 .0) _ (c .before .before .before .before .answer2 .given .1))
+    all-done (a .head .now) (a .records .now) (a .sends .now) (a .draws .now) (a .extras .now) (a .now) (a .out .now) (a .told .now) (fits (else1 x)) (well (else2 x)) (few x) (even x) (left y) _ _ _ (all-sent (then y)) (accepted (c .before .before .before .before)) _ (y .take-on .ensures .0) _ _ _ (c .before .store .ensures) (y .take-on .ensures .1 .0) (y .take-on .ensures .1 .1 .1) _
+    (taken-told _ _ _ (y .take-on .ensures .1 .1 .0) _ (c .before .before .before .before .answer2 .given .1))
 
 pub tick-spec : {M : Type 1} → statement M
 tick-spec =

@@ -3,7 +3,7 @@ use mathlib.Core.Path.{sym, _∙_}
 use borrow.Author.Tests.{not-true, not-false}
 use denote.Floats.{passes}
 use Rattle.nights.specs.Draws.{afterLoss, decided}
-use Rattle.network_fates.proofs.OptionForms.{Held, good-chances}
+use Rattle.network_options.proofs.OptionForms.{Held, good-chances}
 use Rattle.network_fates.proofs.Deciding.{loss-drawn, replay-drawn}
 use borrow.Author.Needs.{needs}
 use Rattle.network_fates.proofs.decide.Statement.{statement}

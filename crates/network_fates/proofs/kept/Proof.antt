@@ -2,7 +2,7 @@
 use mathlib.Core.Path.{sym, ap, _∙_}
 use Rattle.chance.specs.declared.Draw.{Draw}
 use Rattle.nights.specs.Draws.{afterReplay}
-use Rattle.network_fates.specs.Options.{plainOptions}
+use Rattle.network_options.specs.Options.{plainOptions}
 use borrow.Author.Needs.{needs}
 use Rattle.network_fates.proofs.kept.Statement.{statement}
 use Rattle.network_fates.proofs.kept.Tie as tie

@@ -1,7 +1,7 @@
 -- `network_fates::once` meets its contract. Assumes nothing.
 use mathlib.Core.Path.{sym, ap, _∙_}
 use native.Mathlib.Omega.{arith}
-use Rattle.network_fates.specs.Options.{plainOptions}
+use Rattle.network_options.specs.Options.{plainOptions}
 use Rattle.network_fates.specs.Answers.{tickOf}
 use Rattle.network_fates.proofs.Deciding.{one-short, one-late, one-told}
 use borrow.Author.Needs.{needs}

@@ -1,50 +1,44 @@
--- `network_words::in_flight` meets its contract. Assumes nothing.
-use mathlib.Core.Path.{_≡_, sym, ap, _∙_}
+-- `network_words::in_flight` meets its contract: the list of the words' own head and records. Assumes nothing.
+use mathlib.Core.Path.{_≡_, ap, _∙_}
 use mathlib.Core.Bool.{true, false}
 use mathlib.Core.List.{[], _∷_}
-use Prim.Native.Nat.{ℕ, _*_}
-use native.Mathlib.Omega.{arith}
+use Prim.Native.Nat.{ℕ}
 use borrow.Author.Tests.{not-true, not-false}
-use lib.ListN.{length, take, getD}
-use Rattle.nights.specs.Record.{wordsOf, recs}
-use Rattle.nights.specs.Journal.{Answer}
-use Rattle.nights.proofs.Undo.{length-wordsOf}
-use Rattle.network_queue.proofs.Inserting.{length-recs, wordsOf-recs}
-use Rattle.network.specs.declared.Head.{Head}
-use Rattle.network.specs.declared.Network.{Network}
-use Rattle.network.specs.Forms.{joined, isFormed}
-use Rattle.network.specs.Calls.{listAnswer}
-use Rattle.network.proofs.Maps.{small}
-use Rattle.network.proofs.Calling.{list-ill, list-short, list-well}
-use Rattle.network_words.specs.Layout.{headFits, networkIn}
-use Rattle.network_words.specs.Calls.{listIn}
+use lib.ListN.{length}
+use Rattle.nights.specs.Tests.{Answer, done, ifDone}
+use Rattle.network_form.specs.Calls.{listAnswer}
+use Rattle.network_take.specs.Takes.{countedOf, listTells, listGives}
+use Rattle.network_words.specs.Layout.{headFits, headIn}
+use Rattle.network_words.specs.Calls.{ifHead}
 use Rattle.network_words.proofs.Heads.{told-fits, head-read}
-use Rattle.network_words.proofs.Told.{Kept, Done, unread, read-kept, read-finished}
+use Rattle.network_words.proofs.Told.{Kept, Done, unread, read-kept, read-finished, taken-refused, taken-done, taken-told}
 use borrow.Author.Needs.{needs}
 use Rattle.network_words.proofs.in_flight.Statement.{statement}
 use Rattle.network_words.proofs.in_flight.Tie as tie
 
-abbrev whole : tie.Start → Network
-whole c = networkIn (c .args .head .now) (c .args .records .now)
+-- the answer on the words' own head and records, and with the test of the head
+abbrev inside : tie.Start → Answer
+inside c = listAnswer (headIn (c .args .head .now)) (c .args .records .now) (length (c .args .out .now))
 
-abbrev listing : tie.Start → Answer
-listing c = listIn (c .args .head .now) (c .args .records .now) (length (c .args .out .now))
+abbrev answer : tie.Start → Answer
+answer c = ifHead (c .args .head .now) (inside c)
 
 fits : (c : tie.Else1) → headFits (c .before .before .before .before .args .head .now) ≡ true
 fits c = told-fits _ _ (c .before .before .load .ensures) true (not-false _ (c .if1 .left))
 
--- what was tested is the network of the words
-tested : (c : tie.After-formed) → c .formed .result ≡ isFormed (whole (c .before .before .before .before .before .before))
-tested c =
-    let b = c .before .before .before .before .before .before in
-    c .formed .ensures
-    ∙ ap (λ (x : Head). isFormed (joined x (b .args .records .now))) (head-read _ _ (c .before .before .before .before .load .ensures) (fits (c .before .before)))
+abbrev else-of : tie.After-list-in → tie.Else1
+else-of c = c .before .before .before
 
-abbrev start : tie.Else2 → tie.Start
+abbrev start : tie.After-list-in → tie.Start
 start c = c .before .before .before .before .before .before .before
 
-formed : (c : tie.Else2) → isFormed (whole (start c)) ≡ true
-formed c = sym (tested (c .before)) ∙ not-false _ (c .if2 .left)
+made : (c : tie.After-list-in) → let a = start c .args in
+    (countedOf (c .list-in .result) ≡ listTells (length (a .out .now)) (headIn (a .head .now)) (a .records .now))
+    × (c .list-in .last .1 .1 .0 ≡ listGives (a .out .now) (headIn (a .head .now)) (a .records .now))
+made c = rw (head-read _ _ (else-of c .before .before .load .ensures) (fits (else-of c))) at (c .list-in .ensures)
+
+accepted : (c : tie.After-listed2) → inside (start (c .before .before .before .before)) ≡ done
+accepted c = taken-done _ _ _ (made (c .before .before .before .before) .0) _ (c .listed2 .given .1)
 
 load-requires : tie.Need-load-requires
 load-requires c κs = search needs
@@ -52,63 +46,52 @@ load-requires c κs = search needs
 returns : tie.Need-returns
 returns c =
     let b = c .before .before .before .before in
-    let k : Kept (listing b) 23 =
-    unread _ (listAnswer (whole b) (length (b .args .out .now))) (told-fits _ _ (c .before .before .load .ensures) false (not-true _ (c .if1 .taken))) in
-    (k .number, (k .out _ _, k .words _ _))
+    let k : Kept (answer b) 23 = unread _ (inside b) (told-fits _ _ (c .before .before .load .ensures) false (not-true _ (c .if1 .taken))) in
+    (k .number _ _, (k .out _ _, k .told _ _))
 
 whole-requires : tie.Need-whole-requires
 whole-requires c κs = search needs
 
-formed-requires : tie.Need-formed-requires
-formed-requires c κs = search needs
+list-in-requires : tie.Need-list-in-requires
+list-in-requires c κs = search needs
 
-returns-2 : tie.Need-returns-2
-returns-2 c =
-    let e = c .before .before .before in
-    let b = e .before .before .before .before in
-    let k : Kept (listing b) 23 =
-    read-kept _ (listAnswer (whole b) (length (b .args .out .now))) (fits e) 23 (list-ill (whole b) (length (b .args .out .now)) (sym (tested (c .before)) ∙ not-true _ (c .if2 .taken))) in
-    (k .number, (k .out _ _, k .words _ _))
+enum-known-listed : tie.Need-enum-known-listed
+enum-known-listed c = search needs
 
-element-copy-out-n : tie.Need-element-copy-out-n
-element-copy-out-n c = search needs
+number-of-requires : tie.Need-number-of-requires
+number-of-requires c κs = search needs
 
-mul-if3 : tie.Need-mul-if3
-mul-if3 c =
-    let e = c .before in omega (arith, small (whole (start e)) (formed e))
-
-returns-3 : tie.Need-returns-3
-returns-3 c =
-    let e = c .before .before in
-    let b = start e in
-    let k : Kept (listing b) 30 =
-    read-kept _ (listAnswer (whole b) (length (b .args .out .now))) (fits (e .before .before .before)) 30 (list-short (whole b) (length (b .args .out .now)) (formed e) (c .if3 .taken)) in
-    (k .number, (k .out _ _, k .words _ _))
-
-mul-copy-out : tie.Need-mul-copy-out
-mul-copy-out c = search needs
-
-copy-out-requires : tie.Need-copy-out-requires
-copy-out-requires c κs =
-    let e = c .before .before .before in
-    let h = small (whole (start e)) (formed e) in
-    (e .before .before .whole .ensures, omega arith, c .before .if3 .left)
+enum-known-listed-2 : tie.Need-enum-known-listed-2
+enum-known-listed-2 c = search needs
 
 same-length : tie.Need-same-length
 same-length c = search needs
 
-returns-4 : tie.Need-returns-4
-returns-4 c =
-    let x = c .before .before .before .before .before in
-    let e = x .before .before in
-    let b = start e in
-    let r = b .args .records .now in
-    let n = getD (b .args .head .now) 5 0 in
-    let o = b .args .out .now in
-    let d : Done (listing b) = read-finished _ (listAnswer (whole b) (length o)) (fits (e .before .before .before)) (list-well (whole b) (length o) (formed e) (x .if3 .left)) in
-    let w : wordsOf (recs r 0 n) ≡ take (n * 8) r = wordsOf-recs r 0 n (omega (arith, small (whole b) (formed e), e .before .before .whole .ensures)) in
-    let m : length (wordsOf (recs r 0 n)) ≡ n * 8 = omega (arith, length-wordsOf (recs r 0 n), length-recs r 0 n) in
-    (d .number, (rw (sym w, sym m) at (c .before .before .before .copy-out .ensures) ∙ d .out _ _, ap (λ (k : ℕ). k ∷ []) (sym (length-recs r 0 n)) ∙ d .words _ _))
+returns-2 : tie.Need-returns-2
+unfolding ifDone
+returns-2 c =
+    let x = c .before .before .before .before .before .before in
+    let b = start x in
+    let e = taken-refused _ _ _ (made x .0) _ (c .before .before .listed .given .1) in
+    let k : Kept (answer b) _ = read-kept _ (inside b) (fits (else-of x)) _ e in
+    (c .number-of .ensures ∙ k .number _ _, ((rw e at (made x .1)) ∙ k .out _ _, k .told _ _))
+
+same-length-2 : tie.Need-same-length-2
+same-length-2 c = search needs
+
+returns-3 : tie.Need-returns-3
+unfolding ifDone
+returns-3 c =
+    let y = c .before .before in
+    let x = y .before .before .before .before in
+    let b = start x in
+    let d : Done (answer b) = read-finished _ (inside b) (fits (else-of x)) (accepted y) in (
+      d .number _ _,
+      (
+        (rw (accepted y) at (made x .1)) ∙ d .out _ _,
+        ap (λ (k : ℕ). k ∷ []) (taken-told _ _ _ (made x .0) _ (y .listed2 .given .1)) ∙ d .told _ _,
+      ),
+    )
 
 pub in-flight-spec : {M : Type 1} → statement M
 in-flight-spec =
@@ -117,12 +100,11 @@ in-flight-spec =
     load-requires
     returns
     whole-requires
-    formed-requires
-    returns-2
-    element-copy-out-n
-    mul-if3
-    returns-3
-    mul-copy-out
-    copy-out-requires
+    list-in-requires
+    enum-known-listed
+    number-of-requires
+    enum-known-listed-2
     same-length
-    returns-4)
+    returns-2
+    same-length-2
+    returns-3)

@@ -5,7 +5,7 @@ use mathlib.Core.Bool.{true}
 use borrow.Author.Tests.{not-true, not-false}
 use Rattle.chance.specs.Probability.{goodWord}
 use Rattle.nights.specs.Net.{Options}
-use Rattle.network_fates.proofs.OptionForms.{loss-fails, replay-fails, delay-fails, all-pass}
+use Rattle.network_options.proofs.OptionForms.{loss-fails, replay-fails, delay-fails, all-pass}
 use Rattle.network_words.specs.Layout.{optionsFrom}
 use Rattle.network_words.specs.Calls.{numberOf}
 use borrow.Author.Needs.{needs}

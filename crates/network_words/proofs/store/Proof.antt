@@ -1,6 +1,6 @@
 -- `network_words::store` meets its contract: good options have good probabilities, whose words are theirs. Assumes nothing.
 use denote.Floats.{passes}
-use Rattle.network_fates.proofs.OptionForms.{good-chances}
+use Rattle.network_options.proofs.OptionForms.{good-chances}
 use borrow.Author.Needs.{needs}
 use Rattle.network_words.proofs.store.Statement.{statement}
 use Rattle.network_words.proofs.store.Tie as tie
