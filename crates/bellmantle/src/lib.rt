@@ -17,7 +17,7 @@ ghost use Rattle.network.specs.Calls.{written};
 ghost use Rattle.network_words.specs.Layout.{optionsFrom, networkIn};
 ghost use Rattle.network_words.specs.Calls.{numberOf, onDone, answerIn, headAfter, recordsAfter, sendTold, formIn, listIn};
 ghost use Rattle.network_batch.specs.Ticks.{ticked};
-ghost use Rattle.journal.specs.Calls.{sends, takes, chooses, markAnswer, markWords};
+ghost use Rattle.journal_calls.specs.Calls.{sends, takes, chooses, markAnswer, markWords};
 ghost use Rattle.journal_words.specs.Calls.{journalAnswer, journalHead, journalRecords, journalWords};
 ghost use Rattle.plants_words.specs.Calls.{newAnswer, newWords, applyAnswer, applyWords, nonceWords, verdictAnswer, verdictWords, coreAnswer, coreWords, coreAnswered};
 ghost use Rattle.properties.specs.Calls.{freshAnswer, freshWords, rebootAnswer, rebootWords, tickAnswer, tickWords, endAnswer};

@@ -1,6 +1,2 @@
--- Laws that belong to no one function, and the theorem.
-pub mod Marks
-pub mod Journaled
-pub mod Takes
-pub mod Rewinds
+-- The theorem.
 pub mod Night

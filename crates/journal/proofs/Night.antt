@@ -20,7 +20,7 @@ use Rattle.network.specs.Forms.{plainOf, structOf, isFormed}
 use Rattle.network.specs.Calls.{settling, firstBy, firstNetwork}
 use Rattle.network.proofs.Maps.{plain-formed, plain-of-struct, struct-formed}
 use Rattle.network_fates.proofs.OptionForms.{refused-bad}
-use Rattle.journal.specs.Calls.{stateOf, stepOf, networkAfter}
+use Rattle.journal_calls.specs.Calls.{stateOf, stepOf, networkAfter}
 use Rattle.journal.specs.Night.{Held, Turn, Settled, Marked, Made, Night, endOf, callsOf, entriesOf, evening, Demand3}
 
 -- what the host holds is a state of the plain form

@@ -1,3 +1,2 @@
--- The definitions that the crate's contracts cite, and the night that demand 3 speaks of.
-pub mod Calls
+-- The night that demand 3 speaks of.
 pub mod Night

@@ -11,7 +11,7 @@ use Rattle.nights.specs.Rule.{Entry, standing, Told, ran, logOf, Claim}
 use Rattle.network.specs.declared.Network.{Network}
 use Rattle.network.specs.Forms.{plainOf, isFormed}
 use Rattle.network.specs.Calls.{firstNetwork}
-use Rattle.journal.specs.Calls.{stateOf, answerOf, wordsAfter, networkAfter, markAnswer, markWords}
+use Rattle.journal_calls.specs.Calls.{stateOf, answerOf, wordsAfter, networkAfter, markAnswer, markWords}
 
 -- what the host holds between two calls
 pub record Held : Type 0 where

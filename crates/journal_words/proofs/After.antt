@@ -12,7 +12,7 @@ use Rattle.network.specs.declared.Network.{Network}
 use Rattle.network.specs.Forms.{structOf, isFormed, headOf}
 use Rattle.network.specs.Calls.{settling}
 use Rattle.network.proofs.Maps.{plain-formed, struct-formed}
-use Rattle.journal.specs.Calls.{stateOf, stepOf, answerOf, wordsAfter, networkAfter}
+use Rattle.journal_calls.specs.Calls.{stateOf, stepOf, answerOf, wordsAfter, networkAfter}
 use Rattle.network_words.specs.Layout.{headFits, headWords, networkIn}
 use Rattle.network_words.proofs.Told.{Kept, Done, read-kept, read-finished}
 use Rattle.journal_words.specs.Calls.{journalAnswer, journalHead, journalRecords, journalWords}

@@ -4,7 +4,7 @@ use mathlib.Core.List.{List}
 use Prim.Native.Nat.{ℕ}
 use Rattle.nights.specs.Journal.{Answer, Call}
 use Rattle.network.specs.Forms.{headOf}
-use Rattle.journal.specs.Calls.{answerOf, wordsAfter, networkAfter}
+use Rattle.journal_calls.specs.Calls.{answerOf, wordsAfter, networkAfter}
 use Rattle.network_words.specs.Layout.{headWords, networkIn}
 use Rattle.network_words.specs.Calls.{onDone, ifHead}
 

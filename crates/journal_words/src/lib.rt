@@ -23,7 +23,7 @@ ghost use Rattle.network_fates.specs.Options.{structOptions};
 ghost use Rattle.network.specs.Calls.{written};
 ghost use Rattle.network_words.specs.Layout.{optionsFrom, networkIn, headWords};
 ghost use Rattle.network_words.specs.Calls.{numberOf, onDone, sendTold};
-ghost use Rattle.journal.specs.Calls.{sends, takes, chooses, markAnswer, markWords};
+ghost use Rattle.journal_calls.specs.Calls.{sends, takes, chooses, markAnswer, markWords};
 ghost use Rattle.journal_words.specs.Calls.{journalAnswer, journalHead, journalRecords, journalWords};
 
 // The number of a call that has nothing more to tell.
@@ -60,7 +60,7 @@ pub fn mark(journal: &mut [u64]) -> u64
     ensures answer { λ r. ⌜ r ≡ numberOf (markAnswer (now (journal .entry))) ⌝ }
     ensures journal { λ _. ⌜ now (journal .exit) ≡ markWords (now (journal .entry)) ⌝ }
 {
-    settled_number(journal::mark(journal))
+    settled_number(journal_mark::mark(journal))
 }
 
 // A journaled send.
@@ -89,7 +89,7 @@ pub fn send(
         return network_words::ILL_FORMED;
     }
     let network = read(loaded.head, records);
-    let sent = journal::send(
+    let sent = journal_send::send(
         network,
         now,
         sort,
@@ -143,7 +143,7 @@ pub fn take_due(
         return network_words::ILL_FORMED;
     }
     let network = read(loaded.head, records);
-    let taken = journal::take_due(network, now, out, journal);
+    let taken = journal_take::take_due(network, now, out, journal);
     let answer = taken.answer;
     match answer {
         Counted::Refused(refusal) => network_words::number_of(refusal),
@@ -198,7 +198,7 @@ pub fn set_options(
     }
     let network = read(loaded.head, records);
     let options = options_of(loss, replay, min, mean, flag);
-    let next = journal::set_options(network, options, journal);
+    let next = journal_options::set_options(network, options, journal);
     let answer = next.answer;
     let Settled::Refused(refusal) = answer else {
         let after = next.network;
@@ -220,7 +220,7 @@ pub fn rewind(head: &mut [u64; 12], records: &mut [u64; 1024], k: u64, journal: 
         return network_words::ILL_FORMED;
     }
     let network = read(loaded.head, records);
-    let next = journal::rewind(network, k, journal);
+    let next = journal_rewind::rewind(network, k, journal);
     let answer = next.answer;
     let Settled::Refused(refusal) = answer else {
         write(next.network, head, records);

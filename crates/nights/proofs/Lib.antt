@@ -10,5 +10,3 @@ pub mod Back
 pub mod Claim
 pub mod Kept
 pub mod Steps
-pub mod Worked
-pub mod Instances

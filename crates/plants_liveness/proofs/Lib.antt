@@ -6,4 +6,3 @@ pub mod Lending
 pub mod Sorting
 pub mod Choosing
 pub mod Laws
-pub mod WorkedCores

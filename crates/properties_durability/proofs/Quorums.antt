@@ -51,10 +51,3 @@ in-every-quorum c r i h chosen taking enough =
     let needed = leb-true (neededCopies (c .size) (participants c)) (copiesOf c r i) h in
     shared (c .size) chosen (holdsCopy c i (entry c r i)) (λ q. not (plant c q .recovering))
     (λ q l e. ap not (taking q l e)) (λ q l e. holder c i (entry c r i) q e) (omega arith)
-
--- with nobody recovering that is a majority of an odd number of plants, and one less than a majority of an even one
-pub four-of-four : neededCopies 4 4 ≡ 2
-four-of-four = refl
-
-pub two-of-five : neededCopies 5 2 ≡ 0
-two-of-five = refl

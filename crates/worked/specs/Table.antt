@@ -88,7 +88,7 @@ pub record Worked : Type 0 where
   -- cores
   pub last-pick-0 : core 0 ≡ 0 ∷ 1 ∷ 2 ∷ 3 ∷ []
   pub last-pick-1 : core 1 ≡ 1 ∷ 2 ∷ 3 ∷ 4 ∷ []
-  -- needed copies
+  -- needed copies: with nobody recovering a majority of an odd number of plants, and one less than a majority of an even one
   pub four-of-four : neededCopies 4 4 ≡ 2
   pub two-of-five : neededCopies 5 2 ≡ 0
   -- ticks: `+007`, `1,500`, 18446744073709551615 and one more

@@ -7,8 +7,8 @@ use Rattle.network.specs.declared.Head.{Head}
 use Rattle.network.specs.declared.Network.{Network}
 use Rattle.network_fates.specs.Answers.{settledOf}
 use Rattle.network.specs.Forms.{joined}
-use Rattle.journal.specs.Calls.{answerOf}
-use Rattle.journal.proofs.Journaled.{Met}
+use Rattle.journal_calls.specs.Calls.{answerOf}
+use Rattle.journal_calls.proofs.Journaled.{Met}
 use Rattle.network_words.specs.Layout.{headFits, networkIn}
 use Rattle.network_words.proofs.Heads.{told-fits, head-read}
 use Rattle.network_words.proofs.Told.{Kept, unread}

@@ -8,7 +8,7 @@ use Rattle.network.specs.declared.Head.{Head}
 use Rattle.network.specs.declared.Network.{Network}
 use Rattle.network.specs.Answers.{sentOf, sending}
 use Rattle.network.specs.Forms.{plainOf, joined}
-use Rattle.journal.specs.Calls.{sends, answerOf, networkAfter, wordsAfter}
+use Rattle.journal_calls.specs.Calls.{sends, answerOf, networkAfter, wordsAfter}
 use Rattle.network_words.specs.Layout.{headFits, networkIn}
 use Rattle.network_words.proofs.Heads.{told-fits, head-read}
 use Rattle.network_words.proofs.Told.{Kept, unread, sent-refused, sent-done, sent-told}

@@ -17,8 +17,8 @@ use Rattle.network.specs.Forms.{joined, headOf, isFormed}
 use Rattle.network.specs.Calls.{callAnswer}
 use Rattle.network_fates.proofs.OptionForms.{good-done}
 use Rattle.network.proofs.Calling.{call-ill}
-use Rattle.journal.specs.Calls.{chooses, answerOf}
-use Rattle.journal.proofs.Journaled.{Met, refused-first}
+use Rattle.journal_calls.specs.Calls.{chooses, answerOf}
+use Rattle.journal_calls.proofs.Journaled.{Met, refused-first}
 use Rattle.network_words.specs.Layout.{headFits, headWords, optionsFrom, networkIn}
 use Rattle.network_words.proofs.Heads.{told-fits, head-read}
 use Rattle.network_words.proofs.Told.{Kept, unread, read-kept, number-refused}

@@ -13,7 +13,7 @@ use Rattle.network.specs.declared.Network.{Network}
 use Rattle.network.specs.Answers.{countedOf, counting}
 use Rattle.network.specs.Forms.{plainOf, joined}
 use Rattle.network.specs.Calls.{written}
-use Rattle.journal.specs.Calls.{takes, answerOf, networkAfter, wordsAfter}
+use Rattle.journal_calls.specs.Calls.{takes, answerOf, networkAfter, wordsAfter}
 use Rattle.network_words.specs.Layout.{headFits, networkIn}
 use Rattle.network_words.proofs.Heads.{told-fits, head-read, a-head}
 use Rattle.network_words.proofs.Told.{Kept, unread, taken-refused, taken-done, taken-told}

@@ -1,0 +1,2 @@
+-- What the journaled calls share.
+pub mod Journaled

@@ -1,0 +1,2 @@
+-- What a mark leaves.
+pub mod Marks

@@ -1,0 +1,2 @@
+-- What each way out of a rewind leaves.
+pub mod Rewinds
