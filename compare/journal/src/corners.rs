@@ -3,7 +3,7 @@
 
 use crate::fate::Letter;
 use crate::night::Night;
-use replays::nets::{Options, PENDING, ROOM};
+use calls::nets::{Options, PENDING, ROOM};
 
 const HALF: u64 = 0x3fe0_0000_0000_0000;
 const ONE: u64 = 0x3ff0_0000_0000_0000;

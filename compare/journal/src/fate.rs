@@ -1,7 +1,7 @@
 //! What becomes of a message, by the rules alone (docs/RULES.md, "The network"): which draws and extras it uses,
 //! whether it is lost, and when its copies are due. Over whole numbers.
 
-use replays::nets::Options;
+use calls::nets::Options;
 
 /// What a send is told of its message.
 #[derive(Clone, Copy, Debug)]

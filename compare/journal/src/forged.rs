@@ -5,8 +5,8 @@ use crate::inputs::{rewind, send, take};
 use crate::night::Night;
 use crate::plain::{Network, SENT_LIMIT};
 use crate::words;
-use replays::draws::Draws;
-use replays::nets::{
+use calls::draws::Draws;
+use calls::nets::{
     any_number, bad_probability, options, options_bad_once_in, DELAYED, LOST, PENDING, SENT,
 };
 

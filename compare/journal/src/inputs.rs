@@ -4,8 +4,8 @@
 use crate::fate::{fate, uses_a_draw, Letter};
 use crate::forged;
 use crate::night::Night;
-use replays::draws::Draws;
-use replays::nets::{
+use calls::draws::Draws;
+use calls::nets::{
     any_number, draw, first_tick, ill_formed, next_tick, options_bad_once_in, room, ROOM,
 };
 
@@ -22,7 +22,7 @@ pub fn night(most: usize, draws: &mut Draws) -> Night {
     }
     night.mark();
     let calls = draws.between(20, most);
-    while night.calls.len() < calls {
+    while night.steps() < calls {
         clock = next_tick(clock, draws);
         step(&mut night, clock, patience, calm, draws);
     }

@@ -1,4 +1,4 @@
-//! A night: a run of journaled calls on one network with one journal, the words of each call with the answer, the
+//! A night: a run of journaled calls on one network with one journal, each with the answer, the told words, the
 //! output, the network and the journal that are expected after it. The network is what the standing calls say
 //! (standing.rs). Once words were put that no call wrote, and that are not put back, nothing can be said by standing
 //! calls, and the network is carried on (plain.rs). Refusals and the journal's words are expected by the rules
@@ -8,7 +8,8 @@ use crate::fate::{fate, refused_options, Fate, Letter};
 use crate::plain::{Network, Record, CAPACITY, SENT_LIMIT};
 use crate::standing::{self, Call};
 use crate::words;
-use replays::nets::{hash, hash_network, roomy, Options, PATTERN, ROOM};
+use calls::case::{self, Case, Row, Words};
+use calls::nets::{case, head, outcomes, place, Options, Told, FLAG, LOSS, PATTERN, PENDING};
 
 /// Zeros and false.
 const PERFECT: Options = [0; 5];
@@ -23,14 +24,17 @@ pub struct Night {
     is_put: Vec<bool>,
     /// Rewinds that were done and went over a word that was put.
     pub over_put: u64,
-    /// Calls of which the standing calls say what the network is then.
+    /// Calls and words put of which the standing calls say what the network is then.
     pub told: u64,
-    /// The words of the network, in the places of `replays::nets`, and of the journal.
+    /// The words of the network, in the places of `calls::nets`, and of the journal.
     pub network: Vec<u64>,
     pub journal: Vec<u64>,
     /// The number of the last refusal.
     pub refusal: u64,
-    pub calls: Vec<Vec<u64>>,
+    /// Words put since the last call, and how many there were in all, into the network and into the journal.
+    put: Vec<Words>,
+    pub puts: [u64; 2],
+    pub cases: Vec<Case>,
 }
 
 impl Night {
@@ -49,24 +53,66 @@ impl Night {
             network: standing::network(first, &[]).words(),
             journal: vec![PATTERN; length],
             refusal: 0,
-            calls: Vec::new(),
+            put: Vec::new(),
+            puts: [0, 0],
+            cases: Vec::new(),
         };
-        let mut rest = options.to_vec();
-        rest.push(length as u64);
-        night.add(1, tested.map(|()| [0, 0]), 0, &rest);
+        night.fresh(options, tested);
         night
     }
 
-    /// Writes a call, with its refusal or answer, the output's hash and its own words.
-    fn add(&mut self, call: u64, answer: Result<[u64; 2], u64>, output: u64, rest: &[u64]) {
+    /// The call that makes the network, before which every row is filled with a pattern.
+    fn fresh(&mut self, options: Options, tested: Result<(), u64>) {
+        let mut made = case(
+            case::Call::NetworkNew,
+            &options,
+            tested.map(|()| Told::Nothing),
+        );
+        for row in [Row::Head, Row::Records, Row::Journal] {
+            made = made.filled(row, PATTERN);
+        }
+        if tested.is_ok() {
+            made = self.left(made.meets("begun"));
+        } else {
+            self.put = vec![
+                words_of(Row::Head, 0, &head(&self.network)),
+                words_of(Row::Records, 0, &self.network[..PENDING]),
+            ];
+        }
+        self.told += 1;
+        self.refusal = made.answer;
+        self.cases.push(made);
+    }
+
+    /// A case that leaves the network as it is now.
+    fn left(&self, case: Case) -> Case {
+        let case = case.expects(Row::Head, 0, &head(&self.network));
+        case.expects(Row::Records, 0, &self.network[..PENDING])
+    }
+
+    /// Adds a call, with its refusal or what it tells, on the network that was `before`.
+    fn add(&mut self, case: Case, before: &[u64]) {
+        let mut case = case;
         self.told += u64::from(!self.is_forged);
-        self.refusal = answer.err().unwrap_or(0);
-        let [first, second] = answer.unwrap_or([0, 0]);
-        let network = hash_network(&self.network);
-        let mut words = vec![call, self.refusal, first, second, output, network];
-        words.extend(rest);
-        words.push(hash(&self.journal));
-        self.calls.push(words);
+        self.refusal = case.answer;
+        if case.answer == 0 {
+            for outcome in outcomes(&case, before, &self.network) {
+                case = case.meets(outcome);
+            }
+            case = self.left(case).expects(Row::Journal, 0, &self.journal);
+        }
+        case.before.append(&mut self.put);
+        self.cases.push(case);
+    }
+
+    /// How many words of the journal are lent.
+    fn lent(&self) -> u64 {
+        self.journal.len() as u64
+    }
+
+    /// How many calls there were, and words put.
+    pub fn steps(&self) -> usize {
+        self.cases.len() + (self.puts[0] + self.puts[1]) as usize
     }
 
     /// How many calls the journal holds, as its word 0 says.
@@ -75,7 +121,7 @@ impl Night {
     }
 
     pub fn options(&self) -> Options {
-        let words = &self.network[replays::nets::LOSS..];
+        let words = &self.network[LOSS..];
         words.try_into().expect("five words")
     }
 
@@ -113,37 +159,45 @@ impl Night {
     // ---- The calls
 
     pub fn mark(&mut self) {
-        let answer = if self.journal.len() < 2 {
-            Err(32)
+        let mut marked = case(case::Call::JournalMark, &[self.lent()], Ok(Told::Nothing));
+        if self.journal.len() < 2 {
+            marked = case(case::Call::JournalMark, &[self.lent()], Err(32));
         } else {
             self.journal[0] = 0;
             self.journal[1] = 2;
-            Ok([0, 0])
-        };
-        self.add(9, answer, 0, &[]);
+            marked = marked.meets("marked");
+        }
+        self.add(marked, &[]);
     }
 
     pub fn set_options(&mut self, options: Options) {
-        let answer = self.try_options(options);
-        self.add(2, answer, 0, &options);
+        let before = self.network.clone();
+        let answer = self.try_options(options).map(|()| Told::Nothing);
+        let mut numbers = options.to_vec();
+        numbers.push(self.lent());
+        let case = case(case::Call::JournalSetOptions, &numbers, answer);
+        self.add(case, &before);
     }
 
-    fn try_options(&mut self, options: Options) -> Result<[u64; 2], u64> {
+    fn try_options(&mut self, options: Options) -> Result<(), u64> {
         let before = self.tested()?;
         refused_options(options)?;
         words::room_for(&self.journal, words::OPTIONS_WORDS)?;
         let record = words::of_options(&before);
         self.accept(Call::Choose(options), &record, before.choosing(options));
-        Ok([0, 0])
+        Ok(())
     }
 
     pub fn send(&mut self, letter: Letter, draws: Vec<u64>, extras: Vec<u64>) {
-        let mut rest = vec![letter.now, letter.sort, letter.origin];
-        rest.extend([letter.to, letter.kind, letter.handle]);
-        rest.extend(roomy(&draws));
-        rest.extend(roomy(&extras));
-        let answer = self.try_send(letter, draws, extras);
-        self.add(3, answer, 0, &rest);
+        let before = self.network.clone();
+        let answer = self.try_send(letter, draws.clone(), extras.clone());
+        let mut numbers = vec![letter.now, letter.sort, letter.origin];
+        numbers.extend([letter.to, letter.kind, letter.handle]);
+        numbers.extend([draws.len() as u64, extras.len() as u64, self.lent()]);
+        let case = case(case::Call::JournalSend, &numbers, answer.map(Told::Sent))
+            .put(Row::Draws, 0, &draws)
+            .put(Row::Extras, 0, &extras);
+        self.add(case, &before);
     }
 
     fn try_send(
@@ -151,7 +205,7 @@ impl Night {
         letter: Letter,
         draws: Vec<u64>,
         extras: Vec<u64>,
-    ) -> Result<[u64; 2], u64> {
+    ) -> Result<[u64; 4], u64> {
         let before = self.tested()?;
         let fate = decided(&before, &letter, &draws, &extras)?;
         words::room_for(&self.journal, words::SEND_WORDS)?;
@@ -163,18 +217,20 @@ impl Night {
             extras,
         };
         self.accept(call, &record, carried);
-        let told = u64::from(fate.is_lost()) + 2 * u64::from(fate.is_replayed());
-        Ok([told, 16 * fate.draws as u64 + fate.extras as u64])
+        Ok([
+            u64::from(fate.is_lost()),
+            u64::from(fate.is_replayed()),
+            fate.draws as u64,
+            fate.extras as u64,
+        ])
     }
 
     pub fn take(&mut self, now: u64, room: usize) {
-        let mut output = vec![PATTERN; ROOM];
-        let answer = self.try_take(now, room).map(|taken| {
-            let words = taken.concat();
-            output[..words.len()].copy_from_slice(&words);
-            [taken.len() as u64, 0]
-        });
-        self.add(4, answer, hash(&output), &[now, room as u64]);
+        let before = self.network.clone();
+        let answer = self.try_take(now, room);
+        let answer = answer.map(|taken| Told::Listed(taken.concat()));
+        let numbers = [now, room as u64, self.lent()];
+        self.add(case(case::Call::JournalTakeDue, &numbers, answer), &before);
     }
 
     fn try_take(&mut self, now: u64, room: usize) -> Result<Vec<Record>, u64> {
@@ -195,8 +251,36 @@ impl Night {
     }
 
     pub fn rewind(&mut self, k: u64) {
-        let answer = self.try_rewind(k).map(|()| [0, 0]);
-        self.add(10, answer, 0, &[k]);
+        let before = self.network.clone();
+        let answer = self.try_rewind(k).map(|()| Told::Nothing);
+        let is_done = answer.is_ok();
+        let mut case = case(case::Call::JournalRewind, &[k, self.lent()], answer);
+        if is_done {
+            case = self.rewound(case, k, &before);
+        } else if case.answer == 31 && self.puts[1] > 0 {
+            case = case.meets("forged refused");
+        }
+        self.add(case, &before);
+    }
+
+    /// What a rewind that is done is counted as.
+    fn rewound(&self, case: Case, k: u64, before: &[u64]) -> Case {
+        const DELIVERED: usize = PENDING + 3;
+        let mut case = case.meets(match k {
+            0 => "rewound 0",
+            1 => "rewound 1",
+            _ => "rewound more",
+        });
+        if self.network[DELIVERED] < before[DELIVERED] {
+            case = case.meets("rewound over a take");
+        }
+        if self.network[LOSS..=FLAG] != before[LOSS..=FLAG] {
+            case = case.meets("rewound over options");
+        }
+        if self.puts[1] > 0 && k != 0 {
+            case = case.meets("forged rewound");
+        }
+        case
     }
 
     fn try_rewind(&mut self, k: u64) -> Result<(), u64> {
@@ -230,9 +314,17 @@ impl Night {
 
     // ---- Words that no call wrote
 
-    fn put_word(&mut self, place: usize, value: u64) {
-        self.network[place] = value;
-        self.add(7, Ok([0, 0]), 0, &[place as u64, value]);
+    fn put_word(&mut self, at: usize, value: u64) {
+        self.network[at] = value;
+        let (row, at) = place(at);
+        self.put_into(0, words_of(row, at, &[value]));
+    }
+
+    fn put_into(&mut self, which: usize, words: Words) {
+        self.put.push(words);
+        self.puts[which] += 1;
+        self.told += u64::from(!self.is_forged);
+        self.refusal = 0;
     }
 
     /// Sets a word of the network for good.
@@ -260,7 +352,15 @@ impl Night {
         self.is_forged = true;
         self.journal[place] = value;
         self.is_put[place] = true;
-        self.add(8, Ok([0, 0]), 0, &[place as u64, value]);
+        self.put_into(1, words_of(Row::Journal, place, &[value]));
+    }
+}
+
+fn words_of(row: Row, at: usize, words: &[u64]) -> Words {
+    Words {
+        row,
+        at,
+        words: words.to_vec(),
     }
 }
 

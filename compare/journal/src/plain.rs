@@ -3,7 +3,7 @@
 //! (standing.rs), and this must say the same.
 
 use crate::fate::{refused_options, Fate, Letter};
-use replays::nets::{Options, LOSS, PENDING};
+use calls::nets::{Options, LOSS, PENDING};
 
 pub const CAPACITY: usize = 128;
 pub const SENT_LIMIT: u64 = 1 << 62;
@@ -53,7 +53,7 @@ impl Network {
         }
     }
 
-    /// Its words, in the places that `replays::nets` names.
+    /// Its words, in the places that `calls::nets` names.
     pub fn words(&self) -> Vec<u64> {
         let mut words = self.pending.concat();
         words.resize(8 * CAPACITY, 0);

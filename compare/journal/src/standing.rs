@@ -4,7 +4,7 @@
 
 use crate::fate::{fate, Letter};
 use crate::plain::{Network, Record};
-use replays::nets::Options;
+use calls::nets::Options;
 
 /// A call that was accepted and not rewound, with what was lent to it.
 #[derive(Clone, Debug)]

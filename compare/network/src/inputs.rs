@@ -1,11 +1,12 @@
 //! Random runs. Most calls are within the rules; some break one of them.
 
-use crate::run::{Run, SENT_LIMIT};
-use oracle::network::Letter;
-use replays::draws::Draws;
-use replays::nets::{
-    any_number, draw, first_tick, ill_formed, next_tick, options_bad_once_in, room, ROOM, SENT,
+use crate::run::{Run, Sending, SENT_LIMIT};
+use calls::draws::Draws;
+use calls::nets::{
+    any_number, bad_probability, draw, first_tick, ill_formed, next_tick, options,
+    options_bad_once_in, room, Options, FLAG, LOSS, ROOM, SENT,
 };
+use oracle::network::Letter;
 
 /// A run of calls.
 pub fn run(draws: &mut Draws) -> Run {
@@ -33,6 +34,23 @@ fn set_options(run: &mut Run, draws: &mut Draws) {
 }
 
 fn send(run: &mut Run, clock: u64, draws: &mut Draws) {
+    let (words, letter) = message(run, clock, draws);
+    let surplus: Vec<u64> = (0..draws.below(3)).map(|_| any_number(draws)).collect();
+    let cut = [cut(draws), cut(draws)];
+    let sending = Sending { letter, words, cut };
+    run.send(&sending, &surplus);
+}
+
+/// How many words are lacking: seldom some.
+fn cut(draws: &mut Draws) -> usize {
+    if draws.once_in(40) {
+        draws.between(1, 2)
+    } else {
+        0
+    }
+}
+
+fn message(run: &Run, clock: u64, draws: &mut Draws) -> ([u64; 4], Letter) {
     let options = run.options_now();
     let letter = Letter {
         now: if draws.once_in(20) {
@@ -60,20 +78,7 @@ fn send(run: &mut Run, clock: u64, draws: &mut Draws) {
         draw(0.0, draws),
         draws.word(),
     ];
-    let surplus: Vec<u64> = (0..draws.below(3)).map(|_| any_number(draws)).collect();
-    let cut = [
-        if draws.once_in(40) {
-            draws.between(1, 2)
-        } else {
-            0
-        },
-        if draws.once_in(40) {
-            draws.between(1, 2)
-        } else {
-            0
-        },
-    ];
-    run.send(letter, &words, &surplus, cut);
+    (words, letter)
 }
 
 fn take(run: &mut Run, clock: u64, draws: &mut Draws) {
@@ -118,6 +123,117 @@ fn at_the_limit(run: &mut Run, clock: u64, draws: &mut Draws) {
     for _ in 0..draws.between(1, 5) {
         send(run, clock, draws);
     }
+    let more = run.network[SENT] - near;
+    run.set_sent(old + more);
+}
+
+/// A run of ticks, each in one call: of no message to a dozen, some of them refused. Beside them are words and numbers that only the
+/// boundary has: a flag of options that is any number, and a head with a flag over 1 or with bits of no probability.
+pub fn ticks(draws: &mut Draws) -> Run {
+    let mut run = Run::new(with_any_flag(options(draws), draws));
+    let mut clock = first_tick(draws);
+    for _ in 0..draws.between(20, 60) {
+        clock = next_tick(clock, draws);
+        match draws.below(40) {
+            0 => run.set_options(with_any_flag(options_bad_once_in(3, draws), draws)),
+            1 => {
+                if let Some((place, value)) = ill_formed(&run.network, draws) {
+                    let old = run.spoil(place, value);
+                    tick(&mut run, clock, draws);
+                    run.mend(place, old);
+                }
+            }
+            2 => near_the_limit(&mut run, clock, draws),
+            3 => no_head(&mut run, clock, draws),
+            _ => tick(&mut run, clock, draws),
+        }
+    }
+    run
+}
+
+fn with_any_flag(options: Options, draws: &mut Draws) -> Options {
+    let [loss, replay, min, mean, flag] = options;
+    let flag = if flag == 1 {
+        any_number(draws).max(1)
+    } else {
+        0
+    };
+    [loss, replay, min, mean, flag]
+}
+
+/// Calls on a head that no network has.
+fn no_head(run: &mut Run, clock: u64, draws: &mut Draws) {
+    let (place, value) = match draws.below(3) {
+        0 => (FLAG, any_number(draws).max(2)),
+        1 => (LOSS, bad_probability(draws)),
+        _ => (LOSS + 1, bad_probability(draws)),
+    };
+    let old = run.spoil(place, value);
+    for _ in 0..draws.between(1, 3) {
+        match draws.below(6) {
+            0 => set_options(run, draws),
+            1 => run.take(clock, ROOM),
+            2 => run.pending(),
+            3 => run.in_flight(ROOM),
+            4 => tick(run, clock, draws),
+            _ => send(run, clock, draws),
+        }
+    }
+    run.mend(place, old);
+}
+
+fn tick(run: &mut Run, clock: u64, draws: &mut Draws) {
+    // How many of the messages come with odd numbers or too few words: none, one in many, or any.
+    let oddity = [0, 0, 1, 2][draws.below(4)];
+    let count = draws.below(13);
+    let mut sendings = Vec::new();
+    for _ in 0..count {
+        let (words, letter) = message(run, clock, draws);
+        let mut sending = Sending {
+            letter,
+            words,
+            cut: [0, 0],
+        };
+        if oddity == 0 {
+            plain(&mut sending.letter, clock);
+        }
+        if oddity == 2 {
+            sending.cut = [cut(draws), cut(draws)];
+        }
+        sendings.push(sending);
+    }
+    let now = match draws.below(8) {
+        0 => u64::MAX,
+        1 => clock.saturating_add(draws.below(100) as u64),
+        _ => clock,
+    };
+    let surplus: Vec<u64> = (0..draws.below(3)).map(|_| any_number(draws)).collect();
+    let over = if draws.once_in(30) {
+        draws.between(1, 5)
+    } else {
+        0
+    };
+    let room = if draws.once_in(6) {
+        draws.below(ROOM + 1)
+    } else {
+        ROOM
+    };
+    run.tick(&sendings, over, &surplus, now, room);
+}
+
+/// A message that no rule refuses for itself.
+fn plain(letter: &mut Letter, clock: u64) {
+    letter.now = clock;
+    letter.sort %= 2;
+    letter.kind %= 11;
+}
+
+/// A tick in which the limit of messages sent is reached.
+fn near_the_limit(run: &mut Run, clock: u64, draws: &mut Draws) {
+    let old = run.network[SENT];
+    let near = SENT_LIMIT - draws.below(6) as u64;
+    run.set_sent(near);
+    tick(run, clock, draws);
     let more = run.network[SENT] - near;
     run.set_sent(old + more);
 }

@@ -1,9 +1,10 @@
-//! A run of calls on one network: the words of each call, with the answer, the output and the network that
-//! are expected after it. The Rust is asked wherever it has an answer; the refusals are our rules alone
-//! (docs/RULES.md, "Refusal numbers"), tested here in the rules' order. What the Rust has there stands at each.
+//! A run of calls on one network, each with the answer, the told words, the output and the network that are expected after it. The
+//! Rust is asked wherever it has an answer; the refusals are our rules alone (docs/RULES.md, "Refusal numbers"), tested here in
+//! the rules' order. What the Rust has there stands at each.
 
+use calls::case::{Call, Case, Row, Words};
+use calls::nets::{case, head, outcomes, place, Options, Told, LOST, PATTERN, PENDING, SENT};
 use oracle::network::{Judge, Letter, NetworkOptions, Record};
-use replays::nets::{hash, hash_network, roomy, Options, LOST, PATTERN, PENDING, ROOM, SENT};
 
 /// Records that fit, and messages that can be sent.
 const CAPACITY: usize = 128;
@@ -15,14 +16,32 @@ pub struct Run {
     pub network: Vec<u64>,
     /// Whether our network was made ill formed, which the Rust's never is.
     ill_formed: bool,
-    pub calls: Vec<Vec<u64>>,
+    /// Words put since the last call, and how many there were in all.
+    put: Vec<Words>,
+    pub puts: u64,
+    pub cases: Vec<Case>,
+}
+
+/// A message to be sent, the words lent to the Rust for it, and how many draws and extras are to be lacking.
+pub struct Sending {
+    pub letter: Letter,
+    pub words: [u64; 4],
+    pub cut: [usize; 2],
+}
+
+/// What a send gives: the first refusal that it meets, and how many draws and extras it uses. The words lent to us are those
+/// that the Rust drew, and as extras those that its due ticks show.
+struct Sent {
+    refusal: u64,
+    draws: Vec<u64>,
+    extras: Vec<u64>,
+    after: Judge,
 }
 
 impl Run {
     pub fn new(options: Options) -> Run {
         let perfect = NetworkOptions::perfect();
         let refusal = bad(options);
-        // Beside refusals 20 to 22 stands the network of the perfect options.
         let judge = Judge::new(if refusal == 0 {
             options_of(options)
         } else {
@@ -32,10 +51,24 @@ impl Run {
             judge,
             network: Vec::new(),
             ill_formed: false,
-            calls: Vec::new(),
+            put: Vec::new(),
+            puts: 0,
+            cases: Vec::new(),
         };
         run.follow();
-        run.add(1, refusal, [0, 0], 0, &options);
+        let numbers = options.to_vec();
+        if refusal == 0 {
+            let made = case(Call::NetworkNew, &numbers, Ok(Told::Nothing)).meets("new");
+            run.cases.push(run.left(unwritten(made)));
+        } else {
+            // The run goes on with the network of the perfect options.
+            let refused = case(Call::NetworkNew, &numbers, Err(refusal));
+            run.cases.push(unwritten(refused));
+            run.put = vec![
+                words(Row::Head, 0, &head(&run.network)),
+                words(Row::Records, 0, &run.network[..PENDING]),
+            ];
+        }
         run
     }
 
@@ -50,11 +83,23 @@ impl Run {
         self.network = words;
     }
 
-    fn add(&mut self, call: u64, refusal: u64, answer: [u64; 2], output: u64, rest: &[u64]) {
-        let network = hash_network(&self.network);
-        let mut words = vec![call, refusal, answer[0], answer[1], output, network];
-        words.extend(rest);
-        self.calls.push(words);
+    /// A case that leaves our network as it is now.
+    fn left(&self, case: Case) -> Case {
+        let case = case.expects(Row::Head, 0, &head(&self.network));
+        case.expects(Row::Records, 0, &self.network[..PENDING])
+    }
+
+    /// Adds a case on the network that was `before`.
+    fn add(&mut self, case: Case, before: &[u64]) {
+        let mut case = case;
+        if case.answer == 0 {
+            for outcome in outcomes(&case, before, &self.network) {
+                case = case.meets(outcome);
+            }
+            case = self.left(case);
+        }
+        case.before.append(&mut self.put);
+        self.cases.push(case);
     }
 
     pub fn pending_now(&self) -> usize {
@@ -71,31 +116,63 @@ impl Run {
         if self.ill_formed {
             refusal = 23;
         }
+        let before = self.network.clone();
         if refusal == 0 {
             self.judge.set_options(options_of(options));
             self.follow();
         }
-        self.add(2, refusal, [0, 0], 0, &options);
+        let answer = told(refusal, Told::Nothing);
+        self.add(case(Call::NetworkSetOptions, &options, answer), &before);
     }
 
-    /// Sends. The draws lent to us are those that the Rust drew and the extras those that its due ticks show,
-    /// with `surplus` behind them, but for so many that are cut off.
-    pub fn send(&mut self, letter: Letter, words: &[u64], surplus: &[u64], cut: [usize; 2]) {
-        // 24: the Rust has no such kind or sort.
-        let known = letter.kind <= 10 && letter.sort <= 1;
-        let mut after = self.judge.copy();
+    /// Sends, with `surplus` behind what is used of the draws and the extras.
+    pub fn send(&mut self, sending: &Sending, surplus: &[u64]) {
+        let Sent {
+            refusal,
+            mut draws,
+            mut extras,
+            after,
+        } = self.sent(&self.judge, sending);
+        let used = [draws.len() as u64, extras.len() as u64];
+        for (list, cut) in [(&mut draws, sending.cut[0]), (&mut extras, sending.cut[1])] {
+            lend(list, surplus, cut);
+        }
+        let letter = sending.letter;
+        let before = self.network.clone();
+        let (old, new) = (self.judge.counters(), after.counters());
+        let fate = [
+            new[2].wrapping_sub(old[2]),
+            new[3].wrapping_sub(old[3]),
+            used[0],
+            used[1],
+        ];
+        if refusal == 0 {
+            self.judge = after;
+            self.follow();
+        }
+        let mut numbers = letter_words(letter).to_vec();
+        numbers.extend([draws.len() as u64, extras.len() as u64]);
+        let case = case(Call::NetworkSend, &numbers, told(refusal, Told::Sent(fate)));
+        let case = case.put(Row::Draws, 0, &draws);
+        self.add(case.put(Row::Extras, 0, &extras), &before);
+    }
+
+    /// A send on a network that the Rust has.
+    fn sent(&self, judge: &Judge, sending: &Sending) -> Sent {
+        let letter = sending.letter;
+        let mut after = judge.copy();
         let asked = Letter {
             kind: letter.kind.min(10),
             sort: letter.sort.min(1),
             ..letter
         };
-        let used = after.send(asked, words);
-        let min = self.options_now()[2];
-        let faulted = asked.kind != 0 || self.options_now()[4] == 1;
-        let dues = dues(&after, self.judge.seq());
-        let delayed = faulted && self.options_now()[3] != min;
+        let used = after.send(asked, &sending.words);
+        let options = words_of(judge.options());
+        let min = options[2];
+        let faulted = asked.kind != 0 || options[4] == 1;
+        let dues = dues(&after, judge.seq());
         // The Rust's sums wrap in this build, so that the difference is the extra even past the last tick.
-        let mut extras: Vec<u64> = if delayed {
+        let extras: Vec<u64> = if faulted && options[3] != min {
             dues.iter()
                 .map(|due| due.wrapping_sub(letter.now).wrapping_sub(min))
                 .collect()
@@ -107,31 +184,21 @@ impl Run {
                 let extra = extras.get(place).copied().unwrap_or_default();
                 u128::from(letter.now) + u128::from(min) + u128::from(extra) > u128::from(u64::MAX)
             });
-        let used = [used - extras.len(), extras.len()];
-        let mut draws = words[..used[0]].to_vec();
-        draws.extend(surplus);
-        draws.truncate((used[0] + surplus.len()).min(4));
-        extras.extend(surplus);
-        extras.truncate((used[1] + surplus.len()).min(4));
-        let short = [used[0] > 0 && cut[0] > 0, used[1] > 0 && cut[1] > 0];
-        if short[0] {
-            draws.truncate(used[0].saturating_sub(cut[0]));
-        }
-        if short[1] {
-            extras.truncate(used[1].saturating_sub(cut[1]));
-        }
+        let draws = sending.words[..used - extras.len()].to_vec();
+        // 24: the Rust has no such kind or sort.
+        let known = letter.kind <= 10 && letter.sort <= 1;
         let refusal = if self.ill_formed {
             // 23: the Rust's network is never ill formed.
             23
         } else if !known {
             24
-        } else if self.network[SENT] == SENT_LIMIT {
+        } else if judge.counters()[0] == SENT_LIMIT {
             // 25: the Rust counts on.
             25
-        } else if short[0] {
+        } else if !draws.is_empty() && sending.cut[0] > 0 {
             // 26 and 27: the Rust's generator never ends.
             26
-        } else if short[1] {
+        } else if !extras.is_empty() && sending.cut[1] > 0 {
             27
         } else if late {
             // 28: the Rust's sum overflows.
@@ -142,40 +209,26 @@ impl Run {
         } else {
             0
         };
-        let mut answer = [0, 0];
-        if refusal == 0 {
-            let (old, new) = (self.judge.counters(), after.counters());
-            answer = [
-                (new[2] - old[2]) + 2 * (new[3] - old[3]),
-                16 * used[0] as u64 + used[1] as u64,
-            ];
-            self.judge = after;
-            self.follow();
+        Sent {
+            refusal,
+            draws,
+            extras,
+            after,
         }
-        let mut rest = vec![
-            letter.now,
-            letter.sort,
-            letter.origin,
-            letter.to,
-            letter.kind,
-            letter.handle,
-        ];
-        rest.extend(roomy(&draws));
-        rest.extend(roomy(&extras));
-        self.add(3, refusal, answer, 0, &rest);
     }
 
     pub fn take(&mut self, now: u64, room: usize) {
         let mut after = self.judge.copy();
         let taken = after.take(now);
-        let (refusal, output) = self.listed(&taken, room);
-        let mut answer = [0, 0];
+        let refusal = self.listed(&taken, room);
+        let before = self.network.clone();
         if refusal == 0 {
-            answer[0] = taken.len() as u64;
             self.judge = after;
             self.follow();
         }
-        self.add(4, refusal, answer, output, &[now, room as u64]);
+        let answer = told(refusal, Told::Listed(taken.concat()));
+        let numbers = [now, room as u64];
+        self.add(case(Call::NetworkTakeDue, &numbers, answer), &before);
     }
 
     pub fn due(&self, now: u64) -> usize {
@@ -184,44 +237,115 @@ impl Run {
 
     pub fn pending(&mut self) {
         // 23: as at a send.
-        let (refusal, pending) = if self.ill_formed {
-            (23, 0)
-        } else {
-            (0, self.judge.pending() as u64)
-        };
-        self.add(5, refusal, [pending, 0], 0, &[]);
+        let refusal = if self.ill_formed { 23 } else { 0 };
+        let answer = told(refusal, Told::Count(self.judge.pending() as u64));
+        let mut case = case(Call::NetworkPending, &[], answer);
+        if refusal == 0 {
+            case = case.meets("pending");
+        }
+        self.add(case, &self.network.clone());
     }
 
     pub fn in_flight(&mut self, room: usize) {
         let records = self.judge.records();
-        let (refusal, output) = self.listed(&records, room);
-        let count = if refusal == 0 {
-            records.len() as u64
-        } else {
-            0
-        };
-        self.add(6, refusal, [count, 0], output, &[room as u64]);
+        let refusal = self.listed(&records, room);
+        let answer = told(refusal, Told::Listed(records.concat()));
+        let mut case = case(Call::NetworkInFlight, &[room as u64], answer);
+        if refusal == 0 {
+            case = case.meets("in flight");
+        }
+        self.add(case, &self.network.clone());
     }
 
-    /// The refusal of records into a room, and the hash of the output then.
-    fn listed(&self, records: &[Record], room: usize) -> (u64, u64) {
-        let mut output = vec![PATTERN; ROOM];
-        let words = records.concat();
-        let refusal = if self.ill_formed {
-            23
-        } else if room < words.len() {
-            // 30: the Rust hands out a list of its own.
-            30
-        } else {
-            output[..words.len()].copy_from_slice(&words);
-            0
-        };
-        (refusal, hash(&output))
+    /// The refusal of records into a room.
+    fn listed(&self, records: &[Record], room: usize) -> u64 {
+        if self.ill_formed {
+            return 23;
+        }
+        // 30: the Rust hands out a list of its own.
+        if room < 8 * records.len() {
+            return 30;
+        }
+        0
     }
 
-    fn put(&mut self, place: usize, value: u64) {
-        self.network[place] = value;
-        self.add(7, 0, [0, 0], 0, &[place as u64, value]);
+    /// A tick in one call: these messages one after the other, each as its send alone would be, and then a take. The draws and the
+    /// extras stand behind each other, with `surplus` behind them; `over` words are added to the messages.
+    pub fn tick(
+        &mut self,
+        sendings: &[Sending],
+        over: usize,
+        surplus: &[u64],
+        now: u64,
+        room: usize,
+    ) {
+        let mut sends: Vec<u64> = sendings
+            .iter()
+            .flat_map(|sending| letter_words(sending.letter))
+            .collect();
+        sends.extend(vec![7; over]);
+        let (mut draws, mut extras) = (Vec::new(), Vec::new());
+        let mut after = self.judge.copy();
+        let mut refused = None;
+        for (place, sending) in sendings.iter().enumerate() {
+            let sent = self.sent(&after, sending);
+            draws.extend(&sent.draws);
+            extras.extend(&sent.extras);
+            if sent.refusal != 0 {
+                // What is lacking is lacking at the end of a list, which no later message reaches.
+                draws.truncate(draws.len() - sending.cut[0].min(sent.draws.len()));
+                extras.truncate(extras.len() - sending.cut[1].min(sent.extras.len()));
+                refused = Some((sent.refusal, place));
+                break;
+            }
+            after = sent.after;
+        }
+        let used = [draws.len() as u64, extras.len() as u64];
+        let is_short = refused.is_some_and(|(number, _)| number == 26 || number == 27);
+        if !is_short {
+            draws.extend(surplus);
+            extras.extend(surplus);
+        }
+        let taken = after.take(now);
+        if self.ill_formed {
+            refused = Some((23, 0));
+        } else if over > 0 {
+            refused = Some((24, sendings.len()));
+        } else if refused.is_none() && self.listed(&taken, room) != 0 {
+            refused = Some((30, sendings.len()));
+        }
+        let numbers = [
+            sends.len() as u64,
+            draws.len() as u64,
+            extras.len() as u64,
+            now,
+            room as u64,
+        ];
+        let answer = refused.map_or(0, |(number, place)| number << 32 | place as u64);
+        let mut case = Case::new(Call::NetworkTick, &numbers, answer)
+            .filled(Row::Told3, PATTERN)
+            .filled(Row::Out, PATTERN)
+            .put(Row::Sends, 0, &sends)
+            .put(Row::Draws, 0, &draws)
+            .put(Row::Extras, 0, &extras);
+        match refused {
+            Some((number, _)) => case = case.meets(format!("tick: refusal {number}")),
+            None => {
+                self.judge = after;
+                self.follow();
+                let words = [used[0], used[1], taken.len() as u64];
+                case = case.expects(Row::Told3, 0, &words).meets("tick");
+                case = case.expects(Row::Out, 0, &taken.concat());
+            }
+        }
+        self.add(case, &[]);
+    }
+
+    fn put(&mut self, at: usize, value: u64) {
+        self.network[at] = value;
+        self.puts += 1;
+        let (row, at) = place(at);
+        self.put.push(words(row, at, &[value]));
     }
 
     /// Makes our network ill formed by one word, and tells what stood there.
@@ -247,6 +371,48 @@ impl Run {
     }
 }
 
+/// A case before which head and records are filled with a pattern.
+fn unwritten(case: Case) -> Case {
+    case.filled(Row::Head, PATTERN)
+        .filled(Row::Records, PATTERN)
+}
+
+fn words(row: Row, at: usize, words: &[u64]) -> Words {
+    Words {
+        row,
+        at,
+        words: words.to_vec(),
+    }
+}
+
+fn told(refusal: u64, told: Told) -> Result<Told, u64> {
+    match refusal {
+        0 => Ok(told),
+        number => Err(number),
+    }
+}
+
+fn letter_words(letter: Letter) -> [u64; 6] {
+    [
+        letter.now,
+        letter.sort,
+        letter.origin,
+        letter.to,
+        letter.kind,
+        letter.handle,
+    ]
+}
+
+/// What is lent of a list of words that are used: with the surplus behind them, at most four; or, where words are cut, too few.
+fn lend(list: &mut Vec<u64>, surplus: &[u64], cut: usize) {
+    let used = list.len();
+    list.extend(surplus);
+    list.truncate((used + surplus.len()).min(4));
+    if used > 0 && cut > 0 {
+        list.truncate(used.saturating_sub(cut));
+    }
+}
+
 /// The due ticks of the copies with higher numbers, in the order of these.
 fn dues(after: &Judge, seq: u64) -> Vec<u64> {
     let mut records = after.records();
@@ -261,7 +427,8 @@ fn options_of(options: Options) -> NetworkOptions {
         packet_replay_probability: f64::from_bits(options[1]),
         one_way_delay_min: options[2],
         one_way_delay_mean: options[3],
-        fault_client_messages: options[4] == 1,
+        // The Rust has a yes or no; ours takes any number but 0 for a yes.
+        fault_client_messages: options[4] != 0,
     }
 }
 

@@ -1,5 +1,7 @@
-//! A case: a call with its lent lists, and the answer and the state that are expected of it. Its words are
-//! those that the proved program reads; crates/plants_replay says which stands where.
+//! A case: a call with its lent lists, and the answer and the state that are expected of it.
+
+use calls::case::{self, Row};
+use calls::nets::PATTERN;
 
 /// The most plants, for which every state has room.
 pub const MOST: usize = 15;
@@ -24,12 +26,12 @@ pub enum Call {
         draws: Vec<u64>,
     },
     Verdict {
-        client: bool,
+        sort: u64,
         id: u64,
         to: u64,
     },
     Core {
-        full: bool,
+        full: u64,
         flags: Vec<u64>,
         picks: Vec<u64>,
     },
@@ -50,6 +52,40 @@ pub struct Case {
     pub call: Call,
     pub answer: Answer,
     pub after: Words,
+    /// A word of the state as handed in that stands otherwise, as no state of ours has it.
+    pub odd: Option<(usize, u64)>,
+}
+
+/// What is counted of a fault, by its number: one that leaves every flag, and one that changes one.
+const FAULTS: [[&str; 2]; 6] = [
+    ["crash of a down plant", "crash counted"],
+    ["restart of an up plant", "restart counted"],
+    ["reboot of an up plant", "reboot of a down plant"],
+    ["partition of a cut off plant", "partition"],
+    ["heal of a reached plant", "heal"],
+    ["heal-all of none", "heal-all"],
+];
+
+/// What is counted of a verdict, by its number: on a plant's message, and on a client's.
+const VERDICTS: [[&str; 2]; 3] = [
+    ["deliver from a plant", "deliver from a client"],
+    [
+        "receiver down, from a plant",
+        "receiver down, from a client",
+    ],
+    ["cut off, from a plant", "cut off, from a client"],
+];
+
+/// Every outcome but the refusals.
+pub fn outcomes() -> Vec<String> {
+    let mut names = vec!["new".to_string()];
+    for name in FAULTS.iter().chain(&VERDICTS).flatten() {
+        names.push(name.to_string());
+    }
+    names.push("picked core".to_string());
+    names.push("full core".to_string());
+    names.extend((2..=MOST).map(|size| format!("core of {size}")));
+    names
 }
 
 impl Words {
@@ -64,83 +100,109 @@ impl Words {
         }
     }
 
-    fn words(&self) -> Vec<u64> {
-        let mut words = vec![self.n, self.up, self.partitioned];
-        words.extend(self.counts);
+    /// As the calls have it: n, a word for each flag, ticks and counts.
+    pub fn words(&self) -> Vec<u64> {
+        let flags = |bits: u64| (0..MOST).map(move |id| bits >> id & 1);
+        let mut words = vec![self.n];
+        words.extend(flags(self.up));
+        words.extend(flags(self.partitioned));
         words.extend(self.stable_until);
+        words.extend(self.counts);
         words
     }
 }
 
-impl Answer {
-    fn words(&self) -> [u64; 3] {
-        match self {
-            Answer::Done => [0, 0, 0],
-            Answer::Nonce(nonce) => [1, *nonce, 0],
-            Answer::Verdict(number) => [1, *number, 0],
-            Answer::Core { ids, used } => [1, ids.len() as u64, *used],
-            Answer::Refused(number) => [2, *number, 0],
-        }
-    }
-
-    fn core(&self) -> Vec<u64> {
-        match self {
-            Answer::Core { ids, .. } => ids.clone(),
-            _ => Vec::new(),
-        }
-    }
-}
-
-/// A list in a fixed room. What stands past its end is never lent, and must play no part.
-fn roomy(list: &[u64], room: usize) -> Vec<u64> {
-    assert!(list.len() <= room);
-    let mut words = list.to_vec();
-    words.resize(room, 0);
-    words
-}
-
 impl Case {
-    pub fn words(&self) -> Vec<u64> {
-        let number = match self.call {
-            Call::New => 1,
-            Call::Apply { .. } => 2,
-            Call::Verdict { .. } => 3,
-            Call::Core { .. } => 4,
+    /// The case with its rows. What is told is told into a pattern.
+    pub fn call(&self) -> case::Case {
+        let refusal = match self.answer {
+            Answer::Refused(number) => number,
+            _ => 0,
         };
-        let mut words = vec![number];
-        words.extend(self.before.words());
-        words.extend(self.answer.words());
-        match &self.call {
-            Call::New => {}
+        let make = |call: case::Call, numbers: &[u64]| {
+            let mut case = case::Case::new(call, numbers, refusal);
+            for row in [Row::Told1, Row::Core] {
+                if call.writes().contains(&row) {
+                    case = case.filled(row, PATTERN);
+                }
+            }
+            case
+        };
+        let made = match &self.call {
+            Call::New => make(case::Call::PlantsNew, &[self.before.n]).filled(Row::Plants, PATTERN),
             Call::Apply {
                 fault,
                 id,
                 tick,
                 draws,
             } => {
-                words.extend([*fault, *id, *tick, draws.len() as u64]);
-                words.extend(roomy(draws, 2));
+                let numbers = [*tick, *fault, *id, draws.len() as u64];
+                let made = make(case::Call::PlantsApply, &numbers);
+                self.lent(made).put(Row::Draws, 0, draws)
             }
-            Call::Verdict { client, id, to } => {
-                words.extend([u64::from(*client), *id, *to]);
-                return words;
+            Call::Verdict { sort, id, to } => {
+                self.lent(make(case::Call::PlantsVerdict, &[*sort, *id, *to]))
             }
             Call::Core { full, flags, picks } => {
-                words.extend([u64::from(*full), flags.len() as u64]);
-                words.extend(roomy(flags, 16));
-                words.push(picks.len() as u64);
-                words.extend(roomy(picks, 24));
-                words.extend(roomy(&self.answer.core(), MOST));
+                let numbers = [flags.len() as u64, picks.len() as u64, *full];
+                let made = make(case::Call::PlantsChooseCore, &numbers);
+                let made = self.lent(made).put(Row::Recovering, 0, flags);
+                made.put(Row::Picks, 0, picks)
             }
-        }
-        words.extend(self.after.words());
-        words
+        };
+        self.expected(self.counted(made))
     }
 
-    pub fn bytes(&self) -> Vec<u8> {
-        self.words()
-            .into_iter()
-            .flat_map(u64::to_le_bytes)
-            .collect()
+    /// With the state before.
+    fn lent(&self, made: case::Case) -> case::Case {
+        let mut words = self.before.words();
+        if let Some((place, word)) = self.odd {
+            words[place] = word;
+        }
+        made.put(Row::Plants, 0, &words)
+    }
+
+    /// With the state after and what is told. A refusal leaves all words.
+    fn expected(&self, made: case::Case) -> case::Case {
+        let made = match &self.answer {
+            Answer::Refused(_) => return made,
+            Answer::Done => made,
+            Answer::Nonce(word) | Answer::Verdict(word) => made.expects(Row::Told1, 0, &[*word]),
+            Answer::Core { ids, used } => {
+                let mut told = vec![ids.len() as u64, *used];
+                told.extend(ids);
+                told.resize(Row::Core.words(), 0);
+                made.expects(Row::Core, 0, &told)
+            }
+        };
+        match self.call {
+            Call::Verdict { .. } => made,
+            _ => made.expects(Row::Plants, 0, &self.after.words()),
+        }
+    }
+
+    /// With the outcomes that it meets.
+    fn counted(&self, made: case::Case) -> case::Case {
+        let (before, after) = (&self.before, &self.after);
+        match (&self.call, &self.answer) {
+            (_, Answer::Refused(number)) => made.meets(format!("refusal {number}")),
+            (Call::New, _) => made.meets("new"),
+            (Call::Apply { fault, .. }, _) => {
+                let changes = before.up != after.up || before.partitioned != after.partitioned;
+                made.meets(FAULTS[*fault as usize][usize::from(changes)])
+            }
+            (Call::Verdict { sort, .. }, Answer::Verdict(number)) => {
+                made.meets(VERDICTS[*number as usize][*sort as usize])
+            }
+            (Call::Core { full, .. }, Answer::Core { ids, .. }) => {
+                let which = if *full == 0 {
+                    "picked core"
+                } else {
+                    "full core"
+                };
+                made.meets(which).meets(format!("core of {}", ids.len()))
+            }
+            _ => unreachable!("an answer is of its call"),
+        }
     }
 }

@@ -25,6 +25,7 @@ pub fn new(n: u64) -> Case {
         call: Call::New,
         answer,
         after,
+        odd: None,
     }
 }
 
@@ -40,6 +41,7 @@ pub fn apply(before: Words, fault: u64, id: u64, tick: u64, draws: Vec<u64>) -> 
         },
         answer,
         after,
+        odd: None,
     }
 }
 
@@ -71,8 +73,13 @@ pub fn verdict(before: Words, client: bool, id: u64, to: u64) -> Case {
     Case {
         after: before.clone(),
         before,
-        call: Call::Verdict { client, id, to },
+        call: Call::Verdict {
+            sort: u64::from(client),
+            id,
+            to,
+        },
         answer,
+        odd: None,
     }
 }
 
@@ -102,7 +109,11 @@ pub fn core(before: Words, recovering: &[bool], raw: &[u64], surplus: &[u64], fu
     let used = picks.len() as u64;
     picks.extend(surplus);
     let flags = recovering.iter().map(|&is| u64::from(is)).collect();
-    let call = Call::Core { full, flags, picks };
+    let call = Call::Core {
+        full: u64::from(full),
+        flags,
+        picks,
+    };
     // 43: as at a fault.
     if passes_limit(&chosen.state) {
         return refused(before, call, 43);
@@ -115,6 +126,7 @@ pub fn core(before: Words, recovering: &[bool], raw: &[u64], surplus: &[u64], fu
         call,
         answer: Answer::Core { ids, used },
         after,
+        odd: None,
     }
 }
 
@@ -125,6 +137,7 @@ pub fn refused(before: Words, call: Call, number: u64) -> Case {
         before,
         call,
         answer: Answer::Refused(number),
+        odd: None,
     }
 }
 

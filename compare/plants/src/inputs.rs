@@ -2,7 +2,7 @@
 
 use crate::case::{Call, Case, Words, MOST};
 use crate::expected::{self, LENT_WORDS, LIMIT};
-use replays::draws::Draws;
+use calls::draws::Draws;
 
 /// A state of 3 to 15 plants. Once in twenty a count stands at its limit.
 fn state(draws: &mut Draws) -> Words {
@@ -211,15 +211,15 @@ pub fn refused_core(draws: &mut Draws) -> Case {
     expected::refused(before, call, number)
 }
 
-fn used(n: usize, full: bool) -> usize {
-    usize::from(!full) + (n - 1) + (n - (n / 2 + 1) - 1)
+fn used(n: usize, full: u64) -> usize {
+    usize::from(full == 0) + (n - 1) + (n - (n / 2 + 1) - 1)
 }
 
 /// A pick over its range, or a size under it.
-fn break_a_pick(n: usize, full: bool, picks: &mut [u64], draws: &mut Draws) {
+fn break_a_pick(n: usize, full: u64, picks: &mut [u64], draws: &mut Draws) {
     let quorum = n / 2 + 1;
     let place = draws.below(used(n, full));
-    let first = usize::from(!full);
+    let first = usize::from(full == 0);
     let last = if place < first {
         n
     } else if place < first + n - 1 {
@@ -253,4 +253,62 @@ fn break_the_flags(flags: &mut Vec<u64>, draws: &mut Draws) {
             flags[id] = any_number(draws).max(2);
         }
     }
+}
+
+/// What only the boundary has, and the Rust has not.
+pub const BOUNDARY: [&str; 4] = [
+    "a fault over 5",
+    "a sender's sort over 1",
+    "a flag over 1",
+    "a core with a wish that is any number",
+];
+
+/// A case of one of these: refused by 5, by 24, by 42 but after 40, and as the wish for the full core by 1.
+pub fn boundary(draws: &mut Draws) -> (&'static str, Case) {
+    let which = draws.below(BOUNDARY.len());
+    let case = match which {
+        0 => fault_over_5(draws),
+        1 => sort_over_1(draws),
+        2 => flag_over_1(draws),
+        _ => full_by_another_number(draws),
+    };
+    (BOUNDARY[which], case)
+}
+
+fn fault_over_5(draws: &mut Draws) -> Case {
+    let mut case = apply(draws);
+    if let Call::Apply { fault, .. } = &mut case.call {
+        *fault = not_below(draws, 6);
+    }
+    expected::refused(case.before, case.call, 5)
+}
+
+fn sort_over_1(draws: &mut Draws) -> Case {
+    let mut case = verdict(draws);
+    if let Call::Verdict { sort, .. } = &mut case.call {
+        *sort = not_below(draws, 2);
+    }
+    expected::refused(case.before, case.call, 24)
+}
+
+fn flag_over_1(draws: &mut Draws) -> Case {
+    let makers = [apply, verdict, core];
+    let case = makers[draws.below(3)](draws);
+    let is_known = (3..=15).contains(&case.before.n);
+    let number = if is_known { 42 } else { 40 };
+    let flag = (draws.between(1, 30), not_below(draws, 2));
+    Case {
+        odd: Some(flag),
+        ..expected::refused(case.before, case.call, number)
+    }
+}
+
+fn full_by_another_number(draws: &mut Draws) -> Case {
+    let mut case = core(draws);
+    if let Call::Core { full, .. } = &mut case.call {
+        if *full == 1 {
+            *full = not_below(draws, 2);
+        }
+    }
+    case
 }

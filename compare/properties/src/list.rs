@@ -1,8 +1,9 @@
-//! The list of calls that our program replays, as crates/properties_replay says its format, with a mirror of the
-//! program's lent words: only words that change get a line.
+//! The calls of runs, with a mirror of the rows that they are lent: only words that change are put.
 
-use crate::cluster::{Entry, Plant};
+use crate::cluster::{Entry, Plant, VALUES};
 use crate::judge::Verdict;
+use calls::case::{Call, Case, Row, Words};
+use calls::nets::PATTERN;
 
 pub const LOG_WORDS: usize = 512;
 pub const PLANT_ROOM: usize = 64;
@@ -10,19 +11,13 @@ pub const LOG_ROOM: usize = 7684;
 pub const SMALL_ROOM: usize = 16;
 pub const TRACKER_ROOM: usize = 2450;
 
-/// Bytes that our program reads.
+/// The most that a list's length may be.
 pub const LIST_ROOM: usize = 524_288;
-pub const LINE: usize = 64;
 
-#[derive(Clone, Copy, PartialEq, Eq)]
-pub enum Call {
-    Tick = 6,
-    End = 7,
-    Fresh = 8,
-    Reboot = 9,
-}
+/// What a call and words put together add to the length.
+const STEP: usize = 64;
 
-/// n and how many words of each room are lent.
+/// n and how many words of each row are lent.
 #[derive(Clone, Copy, PartialEq, Eq)]
 pub struct Lent {
     pub n: u64,
@@ -47,41 +42,70 @@ impl Lent {
 }
 
 pub struct List {
-    pub bytes: Vec<u8>,
+    pub cases: Vec<Case>,
+    /// How long the list is, which is what ends it.
+    pub length: usize,
     pub plants: [u64; PLANT_ROOM],
     logs: Vec<u64>,
     values: [u64; SMALL_ROOM],
     pub core: [u64; SMALL_ROOM],
-    /// The tracker that is expected in our program.
+    /// The tracker that is expected.
     pub tracker: Vec<u64>,
     lent: Option<Lent>,
+    /// Words put since the last call.
+    put: Vec<Words>,
+    /// The longest log and the most plants, of those that the rules take.
+    pub longest: u64,
+    pub most: u64,
 }
 
 impl List {
+    /// No call yet, and zeros in every row.
     pub fn new() -> List {
+        let rows = [
+            Row::Snapshot,
+            Row::Logs,
+            Row::Values,
+            Row::Ids,
+            Row::Tracker,
+        ];
+        let put = rows.map(|row| Words {
+            row,
+            at: 0,
+            words: vec![0; row.words()],
+        });
         List {
-            bytes: Vec::new(),
+            cases: Vec::new(),
+            length: 0,
             plants: [0; PLANT_ROOM],
             logs: vec![0; LOG_ROOM],
             values: [0; SMALL_ROOM],
             core: [0; SMALL_ROOM],
             tracker: vec![0; TRACKER_ROOM],
             lent: None,
+            put: put.to_vec(),
+            longest: 0,
+            most: 0,
         }
     }
 
-    fn line(&mut self, words: [u64; 7]) {
-        for word in words {
-            self.bytes.extend(word.to_le_bytes());
-        }
-        self.bytes.extend([0; 8]);
+    fn put(&mut self, row: Row, at: usize, words: &[u64]) {
+        self.length += STEP;
+        self.put.push(Words {
+            row,
+            at,
+            words: words.to_vec(),
+        });
     }
 
     pub fn plant_words(&mut self, id: usize, words: [u64; 4]) {
         let at = 4 * id;
         if self.plants[at..at + 4] != words {
             self.plants[at..at + 4].copy_from_slice(&words);
-            self.line([0, at as u64, words[0], words[1], words[2], words[3], 0]);
+            self.put(Row::Snapshot, at, &words);
+            if words[3] <= 128 {
+                self.longest = self.longest.max(words[3]);
+            }
         }
     }
 
@@ -89,7 +113,7 @@ impl List {
         let at = LOG_WORDS * id + 4 * index;
         if self.logs[at..at + 4] != *entry {
             self.logs[at..at + 4].copy_from_slice(entry);
-            self.line([1, at as u64, entry[0], entry[1], entry[2], entry[3], 0]);
+            self.put(Row::Logs, at, entry);
         }
     }
 
@@ -105,10 +129,10 @@ impl List {
 
     pub fn values(&mut self, plants: &[Plant]) {
         for (id, plant) in plants.iter().enumerate() {
-            let number = plant.value as u64;
-            if self.values[id] != number {
-                self.values[id] = number;
-                self.line([3, id as u64, number, 0, 0, 0, 0]);
+            let word = VALUES[plant.value] as u64;
+            if self.values[id] != word {
+                self.values[id] = word;
+                self.put(Row::Values, id, &[word]);
             }
         }
     }
@@ -117,7 +141,7 @@ impl List {
         for (place, &id) in core.iter().enumerate() {
             if self.core[place] != id {
                 self.core[place] = id;
-                self.line([4, place as u64, id, 0, 0, 0, 0]);
+                self.put(Row::Ids, place, &[id]);
             }
         }
     }
@@ -125,41 +149,62 @@ impl List {
     pub fn tracker_word(&mut self, at: usize, word: u64) {
         if self.tracker[at] != word {
             self.tracker[at] = word;
-            self.line([2, at as u64, word, 0, 0, 0, 0]);
+            self.put(Row::Tracker, at, &[word]);
         }
     }
 
     pub fn lend(&mut self, lent: Lent) {
         if self.lent != Some(lent) {
             self.lent = Some(lent);
-            self.line([
-                5,
-                lent.n,
-                lent.plants as u64,
-                lent.logs as u64,
-                lent.values as u64,
-                lent.core as u64,
-                lent.tracker as u64,
-            ]);
+            self.length += STEP;
+            if lent.n <= 15 {
+                self.most = self.most.max(lent.n);
+            }
         }
     }
 
-    /// A call with the answer expected; the tracker is the one expected after it.
+    /// A call with the answer expected; the tracker is the one expected after it. An id is a reboot's.
     pub fn call(&mut self, call: Call, id: u64, verdict: Verdict) {
-        let Verdict {
-            code,
-            plant,
-            index,
-            test,
-        } = verdict;
-        let hash = hash(&self.tracker);
-        self.line([call as u64, id, code, plant, index, test, hash]);
+        let lent = self.lent.expect("something is lent");
+        let [plants, logs, values] = [lent.plants, lent.logs, lent.values].map(|len| len as u64);
+        let [core, tracker] = [lent.core, lent.tracker].map(|len| len as u64);
+        let numbers = match call {
+            Call::PropertiesFresh => vec![lent.n, tracker],
+            Call::PropertiesReboot => vec![lent.n, id, tracker],
+            Call::PropertiesTick => vec![lent.n, plants, logs, tracker],
+            _ => vec![lent.n, plants, logs, values, core, tracker],
+        };
+        let is_refused = verdict.code >= 40;
+        let answer = if is_refused { verdict.code } else { 0 };
+        let mut case = Case::new(call, &numbers, answer).meets(outcome(call, verdict));
+        if call.writes().contains(&Row::Told4) {
+            case = case.filled(Row::Told4, PATTERN);
+            if !is_refused {
+                let told = [verdict.code, verdict.plant, verdict.index, verdict.test];
+                case = case.expects(Row::Told4, 0, &told);
+            }
+        }
+        if call.writes().contains(&Row::Tracker) {
+            case = case.expects(Row::Tracker, 0, &self.tracker);
+        }
+        case.before.append(&mut self.put);
+        self.cases.push(case);
+        self.length += STEP;
     }
 }
 
-/// FNV-1a, word by word.
-fn hash(words: &[u64]) -> u64 {
-    words.iter().fold(0xcbf2_9ce4_8422_2325, |hash, word| {
-        (hash ^ word).wrapping_mul(0x100_0000_01b3)
-    })
+/// What a call is counted as.
+fn outcome(call: Call, verdict: Verdict) -> String {
+    match verdict.code {
+        0 => match call {
+            Call::PropertiesTick => "tick passed",
+            Call::PropertiesEnd => "end passed",
+            Call::PropertiesFresh => "fresh",
+            _ => "reboot",
+        }
+        .to_string(),
+        code @ (1 | 7) => format!("property {code} test {}", verdict.test),
+        code @ (3 | 4 | 6) => format!("property {code}"),
+        code => format!("refusal {code}"),
+    }
 }

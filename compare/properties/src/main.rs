@@ -1,12 +1,13 @@
 //! Compares the proved properties with the Rust's.
 //!
-//! `properties [--seed N] [--count N] [--sample FILE]`: the seed of the random runs, and how many snapshots are
-//! compared at least; or the fixed sample is written to a file, and nothing is compared. Ends with status 0 if
+//! `properties [--seed N] [--count N] [--plant NAME] [--sample FILE]`: the seed of the random runs, how many snapshots are compared
+//! at least, and a fault to plant in our side; or the sample is written to a file, and nothing is compared. Ends with status 0 if
 //! there is no difference and every outcome was met.
 
 mod cluster;
 mod judge;
 mod list;
+mod planted;
 mod runs;
 #[path = "../../oracle/stand_ins/state_machine.rs"]
 mod state_machine;
@@ -14,121 +15,118 @@ mod state_machine;
 include!(concat!(env!("OUT_DIR"), "/properties.rs"));
 include!(concat!(env!("OUT_DIR"), "/readable.rs"));
 
-use list::{List, LINE, LIST_ROOM};
-use replays::arguments::Comparison;
-use replays::draws::Draws;
-use replays::program::{Program, Tally};
+use calls::arguments::{Agrees, Compared, Comparison};
+use calls::case::{Call, Case, Row};
+use calls::draws::Draws;
+use calls::sample::Sample;
+use calls::tally::outcomes;
+use list::{List, LIST_ROOM};
 use std::process::ExitCode;
 
 /// How many snapshots are compared at least, unless told.
 const COUNT: u64 = 200_000;
 
-/// The sample's seed, one with which every planted fault is reported.
+/// The sample's seed, and its length, at which no further run begins.
 const SAMPLE_SEED: u64 = 10;
-
-/// Bytes of the fixed sample, at which no further run begins.
 const SAMPLE: usize = 180_000;
 
+/// The length of lists with wrong expectations.
+const SAMPLE_WRONG: usize = 20_000;
+
+/// The refusals that the sample has of each call.
+const WANTED: [(Call, &[u64]); 4] = [
+    (Call::PropertiesFresh, &[40, 61]),
+    (Call::PropertiesReboot, &[40, 41, 61]),
+    (Call::PropertiesTick, &[40, 60, 61]),
+    (Call::PropertiesEnd, &[40, 60, 61]),
+];
+
+const OUTCOMES: [&str; 14] = [
+    "tick passed",
+    "end passed",
+    "fresh",
+    "reboot",
+    "property 1 test 1",
+    "property 1 test 2",
+    "property 1 test 3",
+    "property 3",
+    "property 4",
+    "property 6",
+    "property 7 test 1",
+    "property 7 test 2",
+    "property 7 test 3",
+    "property 7 test 4",
+];
+
 fn main() -> ExitCode {
-    let comparison = Comparison {
+    comparison().run()
+}
+
+fn comparison() -> Comparison {
+    Comparison {
         name: "properties",
         count: COUNT,
         sample_seed: SAMPLE_SEED,
+        outcomes: outcomes(&OUTCOMES, &[40, 41, 60, 61]),
+        plants: &planted::ALL,
         compare,
         sample,
-    };
-    comparison.run()
+    }
 }
 
-/// The fixed sample.
-fn sample(seed: u64) -> Vec<u8> {
-    listed(&mut Draws::new(seed), SAMPLE, true)
-}
-
-fn compare(seed: u64, count: u64) -> ExitCode {
+fn compare(compared: &mut Compared, seed: u64, count: u64) -> Agrees {
     let draws = &mut Draws::new(seed);
-    let program = Program::given("properties_cases");
-    let mut tally = Tally::default();
-    let mut snapshots = 0;
-    let (mut longest, mut most) = (0, 0);
+    let (mut snapshots, mut longest, mut most) = (0, 0, 0);
     while snapshots < count {
         let list = listed(draws, runs::limit(), false);
-        tally.add_all(&program.run(&list));
-        snapshots += lines(&list).filter(judged).count() as u64;
-        longest = longest.max(largest(&list, 0, 5, 128));
-        most = most.max(largest(&list, 5, 1, 15));
-        if tally.get("differing") > 0 {
-            print!("{}", first_difference(&program, &list));
-            return ExitCode::FAILURE;
+        for case in &list.cases {
+            compared.case(case)?;
         }
+        snapshots += list.cases.iter().filter(|case| judged(case)).count() as u64;
+        longest = longest.max(list.longest);
+        most = most.max(list.most);
     }
-    println!("seed {seed}: {snapshots} snapshots judged by the Rust");
-    println!("of up to {most} plants, with logs of up to {longest} entries");
-    for (key, number) in tally.lines() {
-        println!("{number:>9}  {key}");
-    }
-    if !tally.missing().is_empty() {
-        println!("never met: {}", tally.missing().join(", "));
-        return ExitCode::FAILURE;
-    }
-    println!("no difference");
-    ExitCode::SUCCESS
+    compared.tell(format!("{snapshots} snapshots judged by the Rust"));
+    compared.tell(format!(
+        "of up to {most} plants, with logs of up to {longest} entries"
+    ));
+    Ok(())
 }
 
-/// The largest word at a place in lines of a kind, of those that the rules take.
-fn largest(list: &[u8], kind: u64, place: usize, limit: u64) -> u64 {
-    lines(list)
-        .filter(|line| line[0] == kind)
-        .map(|line| line[place])
-        .filter(|&word| word <= limit)
-        .max()
-        .unwrap_or(0)
+/// Whether a case is a snapshot that the Rust judged, and none that our rules refuse.
+fn judged(case: &Case) -> bool {
+    case.call.writes().contains(&Row::Told4) && case.answer == 0
 }
 
-/// Whether a line is a snapshot that the Rust judged, and none that our rules refuse.
-fn judged(line: &[u64; 7]) -> bool {
-    (line[0] == 6 || line[0] == 7) && line[2] < 40
-}
-
-/// A list of whole runs, up to some bytes.
-fn listed(draws: &mut Draws, limit: usize, small: bool) -> Vec<u8> {
+/// A list of whole runs, up to some length.
+fn listed(draws: &mut Draws, limit: usize, small: bool) -> List {
     let mut list = List::new();
-    while list.bytes.len() < limit {
+    while list.length < limit {
         runs::run(draws, &mut list, limit, small);
     }
-    assert!(
-        list.bytes.len() <= LIST_ROOM,
-        "our program reads the list whole"
-    );
-    list.bytes
+    assert!(list.length <= LIST_ROOM);
+    list
 }
 
-fn lines(list: &[u8]) -> impl Iterator<Item = [u64; 7]> + '_ {
-    list.chunks_exact(LINE).map(|line| {
-        let mut words = [0; 7];
-        for (word, bytes) in words.iter_mut().zip(line.chunks_exact(8)) {
-            *word = u64::from_le_bytes(bytes.try_into().expect("eight bytes"));
-        }
-        words
-    })
+/// A list of small runs, and some with wrong expectations.
+fn sample(sample: &mut Sample, seed: u64) {
+    let draws = &mut Draws::new(seed);
+    let list = listed(draws, SAMPLE, true);
+    list.cases.iter().for_each(|case| sample.add(case));
+    assert!(sample.is_complete(&WANTED), "a refusal is not met");
+    let calls = WANTED.map(|(call, _)| call);
+    sample.add_wrong(&calls, || listed(draws, SAMPLE_WRONG, true).cases);
 }
 
-/// The first line that differs, found by halving, and the lines since the call before it.
-fn first_difference(program: &Program, list: &[u8]) -> String {
-    let (mut agreeing, mut differing) = (0, list.len() / LINE);
-    while agreeing + 1 < differing {
-        let middle = (agreeing + differing) / 2;
-        if program.run(&list[..middle * LINE]).get("differing") > 0 {
-            differing = middle;
-        } else {
-            agreeing = middle;
+#[cfg(test)]
+mod tests {
+    use super::*;
+
+    #[test]
+    fn each_planted_fault_is_reported() {
+        assert!(!comparison().differs(None, 4_000));
+        for (name, plant) in planted::ALL {
+            assert!(comparison().differs(Some(plant), 4_000), "{name}");
         }
     }
-    let words: Vec<[u64; 7]> = lines(&list[..differing * LINE]).collect();
-    let before = words[..agreeing].iter().rposition(|line| line[0] > 5);
-    let mut told = format!("a difference in line {differing}; the lines since the call before:\n");
-    for line in &words[before.map_or(0, |place| place + 1)..] {
-        told += &format!("  {line:?}\n");
-    }
-    told
 }

@@ -3,8 +3,9 @@
 
 use crate::cluster::{Entry, Plant, VALUES};
 use crate::judge::{Judge, Verdict, PASS};
-use crate::list::{Call, Lent, List, LIST_ROOM, LOG_ROOM, PLANT_ROOM, SMALL_ROOM, TRACKER_ROOM};
-use replays::draws::Draws;
+use crate::list::{Lent, List, LIST_ROOM, LOG_ROOM, PLANT_ROOM, SMALL_ROOM, TRACKER_ROOM};
+use calls::case::Call;
+use calls::draws::Draws;
 use std::collections::BTreeSet;
 
 const ENTRIES: usize = 128;
@@ -26,7 +27,7 @@ pub struct Run<'a> {
     limit: usize,
 }
 
-/// One run at the end of a list, of which at most `limit` bytes are used.
+/// One run at the end of a list, of which at most `limit` is used.
 pub fn run(draws: &mut Draws, list: &mut List, limit: usize, small: bool) {
     let n = match draws.below(if small { 12 } else { 8 }) {
         0 => draws.between(3, 15),
@@ -52,7 +53,7 @@ pub fn run(draws: &mut Draws, list: &mut List, limit: usize, small: bool) {
     };
     run.fresh();
     for _ in 0..steps {
-        if run.list.bytes.len() >= run.limit {
+        if run.list.length >= run.limit {
             return;
         }
         run.step();
@@ -66,13 +67,13 @@ pub fn limit() -> usize {
 impl Run<'_> {
     fn fresh(&mut self) {
         if self.draws.once_in(8) {
-            self.refused(Call::Fresh);
+            self.refused(Call::PropertiesFresh);
         }
         let lent = Lent::for_plants(self.n);
         self.list.lend(lent);
         self.list.tracker[..lent.tracker].fill(0);
         self.list.tracker[0] = self.n as u64;
-        self.list.call(Call::Fresh, 0, PASS);
+        self.list.call(Call::PropertiesFresh, 0, PASS);
     }
 
     fn step(&mut self) {
@@ -81,7 +82,11 @@ impl Run<'_> {
             1 => self.end(),
             2 => {
                 for _ in 0..3 {
-                    let call = [Call::Tick, Call::End, Call::Reboot][self.draws.below(3)];
+                    let call = [
+                        Call::PropertiesTick,
+                        Call::PropertiesEnd,
+                        Call::PropertiesReboot,
+                    ][self.draws.below(3)];
                     self.refused(call);
                 }
             }
@@ -116,7 +121,7 @@ impl Run<'_> {
         if verdict == PASS {
             self.remember(plants, &before);
         }
-        self.list.call(Call::Tick, 0, verdict);
+        self.list.call(Call::PropertiesTick, 0, verdict);
         verdict
     }
 
@@ -332,7 +337,7 @@ impl Run<'_> {
         assert_eq!(self.judge.last_commits(self.n)[id], 0);
         assert!(self.judge.seen(id).is_empty());
         self.list.tracker[2 + id] = 0;
-        self.list.call(Call::Reboot, id as u64, PASS);
+        self.list.call(Call::PropertiesReboot, id as u64, PASS);
         if !self.draws.once_in(5) {
             self.plants[id] = Plant::new();
             self.plants[id].recovering = 1;
@@ -386,7 +391,7 @@ impl Run<'_> {
         self.list.values(plants);
         self.list.core(core);
         let verdict = self.judge.end(plants, core);
-        self.list.call(Call::End, 0, verdict);
+        self.list.call(Call::PropertiesEnd, 0, verdict);
     }
 
     /// Rising ids, one at least.
@@ -408,10 +413,10 @@ impl Run<'_> {
         self.list.snapshot(&self.plants);
         self.list.values(&self.plants);
         let faults: &[usize] = match call {
-            Call::Tick => &[0, 2, 3, 6, 7, 8, 9],
-            Call::End => &[0, 2, 3, 4, 5, 5, 5, 6, 7, 8, 9],
-            Call::Fresh => &[0, 6],
-            Call::Reboot => &[0, 1, 1, 6, 8, 9],
+            Call::PropertiesTick => &[0, 2, 3, 6, 7, 8, 9],
+            Call::PropertiesEnd => &[0, 2, 3, 4, 5, 5, 5, 6, 7, 8, 9],
+            Call::PropertiesFresh => &[0, 6],
+            _ => &[0, 1, 1, 6, 8, 9],
         };
         for _ in 0..self.draws.between(1, 2) {
             match faults[self.draws.below(faults.len())] {
@@ -477,7 +482,7 @@ impl Run<'_> {
             return Some(40);
         }
         let n = lent.n as usize;
-        if call == Call::Reboot && id >= lent.n {
+        if call == Call::PropertiesReboot && id >= lent.n {
             return Some(41);
         }
         let snapshot = lent.plants != 4 * n
@@ -487,15 +492,15 @@ impl Run<'_> {
         let end =
             lent.values != n || core.is_empty() || !rising || core.iter().any(|&id| id >= lent.n);
         let asked = match call {
-            Call::Tick => snapshot,
-            Call::End => snapshot || end,
-            Call::Fresh | Call::Reboot => false,
+            Call::PropertiesTick => snapshot,
+            Call::PropertiesEnd => snapshot || end,
+            _ => false,
         };
         if asked {
             return Some(60);
         }
         let tracker = &self.list.tracker;
-        let held = call != Call::Fresh
+        let held = call != Call::PropertiesFresh
             && (tracker[0] != lent.n
                 || tracker[1] > 128
                 || (0..n).any(|r| tracker[2 + r] > tracker[1]));

@@ -3,7 +3,7 @@
 //! The Rust decides every accepted script and refusals 3 to 7. Refusals 1, 2 and 8 are our own (RULES, "Fault
 //! scripts"): 1 and 2 come before any run, and 8 asks the Rust how many events a beginning of the text holds.
 
-use oracle::script::{run, Event, FAULT_NAMES, HEAL_ALL};
+use oracle::script::{run, Event};
 
 /// The longest text that is read, in bytes.
 pub const LONGEST_TEXT: usize = 65_536;
@@ -54,26 +54,6 @@ pub fn events_found(text: &[u8]) -> usize {
     let accepted = beginnings.partition_point(|beginning| run(beginning).is_ok());
     let longest = accepted.checked_sub(1).map_or("", |last| beginnings[last]);
     run(longest).map_or(0, |events| events.len())
-}
-
-/// The lines that the program `faults` writes for an answer.
-pub fn report(answer: &Answer) -> String {
-    match answer {
-        Answer::Accepted(events) => {
-            let mut lines = format!("events={}\n", events.len());
-            for event in events {
-                lines += &format!(
-                    "tick={}\nfault={}\n",
-                    event.tick, FAULT_NAMES[event.fault as usize]
-                );
-                if event.fault != HEAL_ALL {
-                    lines += &format!("id={}\n", event.id);
-                }
-            }
-            lines
-        }
-        Answer::Refused { number, line } => format!("refusal={number}\nline={line}\n"),
-    }
 }
 
 /// The refusal of the shortest beginning that does not fit, which ends with the given line: the Rust's, or
@@ -128,6 +108,27 @@ fn number(line: usize) -> u32 {
 #[cfg(test)]
 mod tests {
     use super::*;
+    use oracle::script::{FAULT_NAMES, HEAL_ALL};
+
+    /// An answer in lines.
+    fn report(answer: &Answer) -> String {
+        match answer {
+            Answer::Accepted(events) => {
+                let mut lines = format!("events={}\n", events.len());
+                for event in events {
+                    lines += &format!(
+                        "tick={}\nfault={}\n",
+                        event.tick, FAULT_NAMES[event.fault as usize]
+                    );
+                    if event.fault != HEAL_ALL {
+                        lines += &format!("id={}\n", event.id);
+                    }
+                }
+                lines
+            }
+            Answer::Refused { number, line } => format!("refusal={number}\nline={line}\n"),
+        }
+    }
 
     fn told(text: &[u8], room: usize) -> String {
         report(&answer(text, room))

@@ -6,7 +6,7 @@ use crate::expected::{events_found, EVENT_WORDS, LONGEST_TEXT};
 use crate::words::{
     damage, edge_number, good_name, good_number, line, line_end, odd_number, white,
 };
-use replays::draws::Draws;
+use calls::draws::Draws;
 
 /// A script, and how many words are lent for its events.
 pub struct Case {

@@ -1,21 +1,26 @@
 //! Compares the proved reader of fault scripts with the Rust's.
 //!
-//! `scripts [--seed N] [--count N] [--plant FAULT]`: the seed of the random scripts, how many of them are
-//! compared beside the fixed ones, and a fault to plant in our side. Ends with status 0 if there is no
-//! difference and every outcome was met.
+//! `scripts [--seed N] [--count N] [--plant FAULT] [--sample FILE]`: the seed of the random scripts, how many of them are
+//! compared beside the fixed ones, a fault to plant in our side, and a file to which the sample is written instead of
+//! comparing. Ends with status 0 if there is no difference and every outcome was met.
 
+use bellmantle::raw;
+use calls::arguments::written;
 use scripts::comparison::{compare, Reply, Tally};
 use scripts::inputs::cases;
 use scripts::planted::{self, planted, Plant};
+use scripts::sample::sample;
 use std::env;
 use std::process::ExitCode;
 
-const USAGE: &str = "usage: scripts [--seed N] [--count N] [--plant comma|order|line|white|word]";
+const USAGE: &str =
+    "usage: scripts [--seed N] [--count N] [--plant comma|order|line|white|word] [--sample FILE]";
 
 struct Arguments {
     seed: u64,
     count: usize,
     plant: Option<Plant>,
+    sample: Option<String>,
 }
 
 fn main() -> ExitCode {
@@ -23,6 +28,9 @@ fn main() -> ExitCode {
         eprintln!("{USAGE}");
         return ExitCode::from(2);
     };
+    if let Some(file) = &arguments.sample {
+        return written(file, sample());
+    }
     let mut reader = planted(arguments.plant, ours);
     let mut tally = Tally::default();
     for case in cases(arguments.seed, arguments.count) {
@@ -51,15 +59,10 @@ fn main() -> ExitCode {
 }
 
 fn ours(text: &[u8], words: &mut [u64]) -> Reply {
-    match bellmantle::parse_script_into(text, words) {
-        Ok(count) => Reply {
-            refusal: 0,
-            number: count as u32,
-        },
-        Err(error) => Reply {
-            refusal: error.refusal.number() as u32,
-            number: error.line,
-        },
+    let packed = raw::parse_script(text, words);
+    Reply {
+        refusal: (packed >> 32) as u32,
+        number: packed as u32,
     }
 }
 
@@ -68,6 +71,7 @@ fn arguments() -> Option<Arguments> {
         seed: 1,
         count: 200_000,
         plant: None,
+        sample: None,
     };
     let mut words = env::args().skip(1);
     while let Some(word) = words.next() {
@@ -75,6 +79,7 @@ fn arguments() -> Option<Arguments> {
         match word.as_str() {
             "--seed" => arguments.seed = value.parse().ok()?,
             "--count" => arguments.count = value.parse().ok()?,
+            "--sample" => arguments.sample = Some(value),
             "--plant" => {
                 arguments.plant = Some(planted::ALL.iter().find(|(name, _)| *name == value)?.1)
             }

@@ -1,8 +1,8 @@
 //! Random pieces of scripts: numbers, names, white space, lines. A good piece is one that the rules accept;
 //! an odd one lies just beside them, and most often is refused.
 
+use calls::draws::Draws;
 use oracle::script::FAULT_NAMES;
-use replays::draws::Draws;
 
 /// Bytes beside white space in the table of ASCII, or taken for it elsewhere.
 const NEARLY_WHITE: [u8; 8] = [0, 8, 14, 28, 29, 30, 31, 127];

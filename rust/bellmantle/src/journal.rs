@@ -1,7 +1,8 @@
 //! A network with a journal, whose calls can be undone.
 
 use crate::network::{envelope, Envelope, Kind, MessageSummary, NetworkOptions, Origin, Sent};
-use crate::words::{mark, RECORDS_WORDS, RECORD_WORDS};
+use crate::raw::{head, record, RECORDS_WORDS, RECORD_WORDS};
+use crate::words::mark;
 use crate::{Refusal, Words};
 use std::collections::HashMap;
 
@@ -48,10 +49,10 @@ impl<M: Clone> JournaledNetwork<M> {
     /// Forgets the calls held: no rewind goes past a mark. Bodies that are not in flight are dropped.
     pub fn mark(&mut self) -> Result<(), Refusal> {
         mark(&mut self.journal)?;
-        let pending = self.words.head()[5] as usize * RECORD_WORDS;
+        let pending = self.words.head()[head::PENDING] as usize * RECORD_WORDS;
         let flying: Vec<u64> = self.words.records()[..pending]
             .chunks_exact(RECORD_WORDS)
-            .map(|record| record[7])
+            .map(|words| words[record::HANDLE])
             .collect();
         self.bodies.retain(|handle, _| flying.contains(handle));
         Ok(())
@@ -88,7 +89,7 @@ impl<M: Clone> JournaledNetwork<M> {
             .take_due_journaled(now, &mut self.out[..], &mut self.journal)?;
         Ok(self.out[..taken * RECORD_WORDS]
             .chunks_exact(RECORD_WORDS)
-            .map(|record| envelope(record, self.bodies[&record[7]].clone()))
+            .map(|words| envelope(words, self.bodies[&words[record::HANDLE]].clone()))
             .collect())
     }
 

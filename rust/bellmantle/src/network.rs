@@ -1,7 +1,7 @@
 //! The simulated network, with bodies.
 
 use crate::bodies::Bodies;
-use crate::words::{RECORDS_WORDS, RECORD_WORDS};
+use crate::raw::{head, record as at, CAPACITY, MESSAGE_WORDS, RECORDS_WORDS, RECORD_WORDS};
 use crate::{Refusal, Words};
 
 /// Who sends a message.
@@ -171,10 +171,10 @@ pub struct TickRefused<M> {
 /// A record's words as an envelope of a body.
 pub(crate) fn envelope<M>(record: &[u64], message: M) -> Envelope<M> {
     Envelope {
-        from: Origin::of_words(record[3], record[4]),
-        to: record[5],
-        sent_at: record[2],
-        due_at: record[0],
+        from: Origin::of_words(record[at::SORT], record[at::ORIGIN]),
+        to: record[at::TO],
+        sent_at: record[at::SENT_AT],
+        due_at: record[at::DUE],
         message,
     }
 }
@@ -190,7 +190,7 @@ pub struct Network<M> {
 
 impl<M: Clone> Network<M> {
     /// The most messages in flight.
-    pub const CAPACITY: usize = RECORDS_WORDS / RECORD_WORDS;
+    pub const CAPACITY: usize = CAPACITY;
 
     /// A fresh network: 20, 21, 22.
     pub fn new(options: NetworkOptions) -> Result<Network<M>, Refusal> {
@@ -221,14 +221,14 @@ impl<M: Clone> Network<M> {
 
     /// Number of messages in flight.
     pub fn pending(&self) -> usize {
-        self.words.head()[5] as usize
+        self.words.head()[head::PENDING] as usize
     }
 
     /// The tick at which the next message is due, if one is in flight: a take before it takes none.
     pub fn next_due(&self) -> Option<u64> {
         match self.pending() {
             0 => None,
-            _ => Some(self.words.records()[0]),
+            _ => Some(self.words.records()[at::DUE]),
         }
     }
 
@@ -236,7 +236,7 @@ impl<M: Clone> Network<M> {
     pub fn in_flight(&self) -> impl Iterator<Item = Envelope<&M>> {
         self.words.records()[..self.pending() * RECORD_WORDS]
             .chunks_exact(RECORD_WORDS)
-            .map(|record| envelope(record, self.bodies.get(record[7])))
+            .map(|record| envelope(record, self.bodies.get(record[at::HANDLE])))
     }
 
     /// Accepts a message sent at tick `now`, applying faults by the lent draws and extras. 24 to 29; the body is dropped with a
@@ -271,7 +271,7 @@ impl<M: Clone> Network<M> {
         let Network { out, bodies, .. } = self;
         out[..taken * RECORD_WORDS]
             .chunks_exact(RECORD_WORDS)
-            .map(|record| envelope(record, bodies.deliver(record[7])))
+            .map(|record| envelope(record, bodies.deliver(record[at::HANDLE])))
             .collect()
     }
 
@@ -285,7 +285,7 @@ impl<M: Clone> Network<M> {
         now: u64,
     ) -> Result<Ticked<M>, TickRefused<M>> {
         // A body's handle here is its place among the messages; those still in flight afterwards get a handle of the slab.
-        let mut sends = Vec::with_capacity(messages.len() * 6);
+        let mut sends = Vec::with_capacity(messages.len() * MESSAGE_WORDS);
         for (place, message) in messages.iter().enumerate() {
             let (sort, origin) = message.from.words();
             let handle = NEW | place as u64;
@@ -318,16 +318,19 @@ impl<M: Clone> Network<M> {
     fn settle(&mut self, messages: Vec<Message<M>>, taken: usize) -> Vec<Envelope<M>> {
         let due = self.out[..taken * RECORD_WORDS]
             .chunks_exact(RECORD_WORDS)
-            .map(|record| match record[7] & NEW {
-                0 => envelope(record, self.bodies.deliver(record[7])),
-                _ => envelope(record, messages[(record[7] ^ NEW) as usize].body.clone()),
+            .map(|record| match record[at::HANDLE] & NEW {
+                0 => envelope(record, self.bodies.deliver(record[at::HANDLE])),
+                _ => envelope(
+                    record,
+                    messages[(record[at::HANDLE] ^ NEW) as usize].body.clone(),
+                ),
             })
             .collect();
         let pending = self.pending() * RECORD_WORDS;
         let mut copies = vec![0; messages.len()];
         for record in self.words.records[..pending].chunks_exact(RECORD_WORDS) {
-            if record[7] & NEW != 0 {
-                copies[(record[7] ^ NEW) as usize] += 1;
+            if record[at::HANDLE] & NEW != 0 {
+                copies[(record[at::HANDLE] ^ NEW) as usize] += 1;
             }
         }
         let mut handles = vec![0; messages.len()];
@@ -338,8 +341,8 @@ impl<M: Clone> Network<M> {
             }
         }
         for record in self.words.records[..pending].chunks_exact_mut(RECORD_WORDS) {
-            if record[7] & NEW != 0 {
-                record[7] = handles[(record[7] ^ NEW) as usize];
+            if record[at::HANDLE] & NEW != 0 {
+                record[at::HANDLE] = handles[(record[at::HANDLE] ^ NEW) as usize];
             }
         }
         due

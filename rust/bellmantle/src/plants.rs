@@ -1,17 +1,13 @@
 //! Which plants are up and which are cut off, and the choice of the core.
 
-use crate::{sys, Fault, Origin, Refusal};
-
-/// The words of a state, and where its parts begin.
-const WORDS: usize = 49;
-const UP: usize = 1;
-const PARTITIONED: usize = 16;
-const STABLE: usize = 31;
+use crate::raw::plants::{CRASHES, N, PARTITIONED, REBOOTS, RESTARTS, STABLE, UP};
+use crate::raw::{self, core, CORE_WORDS, PLANTS_WORDS};
+use crate::{Fault, Origin, Refusal};
 
 /// The state of 3 to 15 plants.
 #[derive(Clone, Debug, PartialEq, Eq)]
 pub struct Plants {
-    words: [u64; WORDS],
+    words: [u64; PLANTS_WORDS],
 }
 
 /// What becomes of a message that is due.
@@ -36,19 +32,18 @@ pub struct Core {
 impl Plants {
     /// Fresh plants: all n up. 40.
     pub fn new(n: usize) -> Result<Plants, Refusal> {
-        let mut words = [0; WORDS];
-        // SAFETY: the pointer is of an array of the declared length, borrowed mutably for the call.
-        Refusal::check(unsafe { sys::bellmantle_plants_new(n as u64, &mut words) })?;
+        let mut words = [0; PLANTS_WORDS];
+        Refusal::check(raw::plants_new(n as u64, &mut words))?;
         Ok(Plants { words })
     }
 
     /// A state from words of the layout in include/bellmantle.h: the next call tests them (40, 42).
-    pub fn from_words(words: [u64; WORDS]) -> Plants {
+    pub fn from_words(words: [u64; PLANTS_WORDS]) -> Plants {
         Plants { words }
     }
 
     /// Its words.
-    pub fn words(&self) -> &[u64; WORDS] {
+    pub fn words(&self) -> &[u64; PLANTS_WORDS] {
         &self.words
     }
 
@@ -61,18 +56,14 @@ impl Plants {
     ) -> Result<Option<u64>, Refusal> {
         let (number, id) = fault.words();
         let mut nonce = [0; 1];
-        // SAFETY: the arrays have the declared lengths, the slice is passed with its own, and none of them overlap.
-        Refusal::check(unsafe {
-            sys::bellmantle_plants_apply(
-                &mut self.words,
-                tick,
-                number,
-                id,
-                draws.as_ptr(),
-                draws.len(),
-                &mut nonce,
-            )
-        })?;
+        Refusal::check(raw::plants_apply(
+            &mut self.words,
+            tick,
+            number,
+            id,
+            draws,
+            &mut nonce,
+        ))?;
         Ok(match fault {
             Fault::Reboot(_) => Some(nonce[0]),
             _ => None,
@@ -83,10 +74,7 @@ impl Plants {
     pub fn verdict(&self, from: Origin, to: u64) -> Result<Verdict, Refusal> {
         let (sort, id) = from.words();
         let mut told = [0; 1];
-        // SAFETY: both pointers are of arrays of the declared lengths; the state is only read.
-        Refusal::check(unsafe {
-            sys::bellmantle_plants_verdict(&self.words, sort, id, to, &mut told)
-        })?;
+        Refusal::check(raw::plants_verdict(&self.words, sort, id, to, &mut told))?;
         Ok(match told[0] {
             0 => Verdict::Deliver,
             1 => Verdict::ReceiverDown,
@@ -102,29 +90,27 @@ impl Plants {
         full: bool,
     ) -> Result<Core, Refusal> {
         let flags: Vec<u64> = recovering.iter().map(|&flag| u64::from(flag)).collect();
-        let mut told = [0; 17];
-        // SAFETY: as in `apply`.
-        Refusal::check(unsafe {
-            sys::bellmantle_plants_choose_core(
-                &mut self.words,
-                flags.as_ptr(),
-                flags.len(),
-                picks.as_ptr(),
-                picks.len(),
-                u64::from(full),
-                &mut told,
-            )
-        })?;
-        let size = told[0] as usize;
+        let mut told = [0; CORE_WORDS];
+        Refusal::check(raw::plants_choose_core(
+            &mut self.words,
+            &flags,
+            picks,
+            u64::from(full),
+            &mut told,
+        ))?;
+        let size = told[core::SIZE] as usize;
         Ok(Core {
-            ids: told[2..2 + size].iter().map(|&id| id as usize).collect(),
-            picks: told[1] as usize,
+            ids: told[core::IDS..core::IDS + size]
+                .iter()
+                .map(|&id| id as usize)
+                .collect(),
+            picks: told[core::PICKS] as usize,
         })
     }
 
     /// How many plants there are.
     pub fn count(&self) -> usize {
-        self.words[0] as usize
+        self.words[N] as usize
     }
 
     /// Whether a plant runs.
@@ -145,6 +131,10 @@ impl Plants {
 
     /// How often a plant went down, came up, and came up without memory.
     pub fn counts(&self) -> (u64, u64, u64) {
-        (self.words[46], self.words[47], self.words[48])
+        (
+            self.words[CRASHES],
+            self.words[RESTARTS],
+            self.words[REBOOTS],
+        )
     }
 }

@@ -1,13 +1,7 @@
 //! The cluster properties.
 
-use crate::{sys, Refusal};
-
-/// The most entries of a log.
-pub const LOG_ENTRIES: usize = 128;
-
-const ENTRY_WORDS: usize = 4;
-const PLANT_WORDS: usize = 4;
-const LOG_WORDS: usize = LOG_ENTRIES * ENTRY_WORDS;
+use crate::raw::{self, ENTRY_WORDS, LOG_ENTRIES, LOG_WORDS, MOST_PLANTS, SNAPSHOT_PLANT_WORDS};
+use crate::Refusal;
 
 /// A property.
 #[derive(Clone, Copy, Debug, PartialEq, Eq)]
@@ -44,13 +38,13 @@ pub struct Broken {
 }
 
 fn told(words: [u64; 4]) -> Option<Broken> {
-    match words[0] {
+    match words[raw::told::PROPERTY] {
         0 => None,
         number => Some(Broken {
             property: Property::of(number),
-            plant: words[1] as usize,
-            index: words[2] as usize,
-            test: words[3],
+            plant: words[raw::told::PLANT] as usize,
+            index: words[raw::told::INDEX] as usize,
+            test: words[raw::told::TEST],
         }),
     }
 }
@@ -66,7 +60,7 @@ impl Snapshot {
     /// Of n plants with empty logs.
     pub fn new(n: usize) -> Snapshot {
         Snapshot {
-            plants: vec![0; n * PLANT_WORDS],
+            plants: vec![0; n * SNAPSHOT_PLANT_WORDS],
             logs: vec![0; n * LOG_WORDS],
         }
     }
@@ -74,7 +68,8 @@ impl Snapshot {
     /// Sets a plant's numbers: whether it is recovering, its commit and op numbers, and the length of its log.
     pub fn set_plant(&mut self, id: usize, recovering: bool, commit: u64, op: u64, length: u64) {
         let words = [u64::from(recovering), commit, op, length];
-        self.plants[id * PLANT_WORDS..(id + 1) * PLANT_WORDS].copy_from_slice(&words);
+        self.plants[id * SNAPSHOT_PLANT_WORDS..(id + 1) * SNAPSHOT_PLANT_WORDS]
+            .copy_from_slice(&words);
     }
 
     /// Sets an entry of a plant's log: client, request, op id, op body. The index must be below [`LOG_ENTRIES`].
@@ -99,11 +94,8 @@ impl Tracker {
     /// A fresh tracker of n plants: 40.
     pub fn new(n: usize) -> Result<Tracker, Refusal> {
         // A number of plants that is refused is never looked up.
-        let mut words = vec![0; 514 + 129 * n.min(15)];
-        // SAFETY: the slice is passed with its own length and borrowed mutably for the call.
-        Refusal::check(unsafe {
-            sys::bellmantle_properties_fresh(n as u64, words.as_mut_ptr(), words.len())
-        })?;
+        let mut words = vec![0; raw::tracker_words(n.min(MOST_PLANTS))];
+        Refusal::check(raw::properties_fresh(n as u64, &mut words))?;
         Ok(Tracker { n, words })
     }
 
@@ -114,34 +106,23 @@ impl Tracker {
 
     /// A plant came back without its memory: 41.
     pub fn reboot(&mut self, id: usize) -> Result<(), Refusal> {
-        // SAFETY: as in `new`.
-        Refusal::check(unsafe {
-            sys::bellmantle_properties_reboot(
-                self.n as u64,
-                id as u64,
-                self.words.as_mut_ptr(),
-                self.words.len(),
-            )
-        })
+        Refusal::check(raw::properties_reboot(
+            self.n as u64,
+            id as u64,
+            &mut self.words,
+        ))
     }
 
     /// After a tick: the first broken property, if one is. 60, 61.
     pub fn tick(&mut self, snapshot: &Snapshot) -> Result<Option<Broken>, Refusal> {
         let mut words = [0; 4];
-        // SAFETY: the slices are passed with their own lengths, the array has the declared one, and those borrowed mutably do
-        // not overlap any other.
-        Refusal::check(unsafe {
-            sys::bellmantle_properties_tick(
-                self.n as u64,
-                snapshot.plants.as_ptr(),
-                snapshot.plants.len(),
-                snapshot.logs.as_ptr(),
-                snapshot.logs.len(),
-                self.words.as_mut_ptr(),
-                self.words.len(),
-                &mut words,
-            )
-        })?;
+        Refusal::check(raw::properties_tick(
+            self.n as u64,
+            &snapshot.plants,
+            &snapshot.logs,
+            &mut self.words,
+            &mut words,
+        ))?;
         Ok(told(words))
     }
 
@@ -153,23 +134,15 @@ impl Tracker {
         core: &[u64],
     ) -> Result<Option<Broken>, Refusal> {
         let mut words = [0; 4];
-        // SAFETY: as in `tick`; the tracker is only read.
-        Refusal::check(unsafe {
-            sys::bellmantle_properties_end(
-                self.n as u64,
-                snapshot.plants.as_ptr(),
-                snapshot.plants.len(),
-                snapshot.logs.as_ptr(),
-                snapshot.logs.len(),
-                values.as_ptr(),
-                values.len(),
-                core.as_ptr(),
-                core.len(),
-                self.words.as_ptr(),
-                self.words.len(),
-                &mut words,
-            )
-        })?;
+        Refusal::check(raw::properties_end(
+            self.n as u64,
+            &snapshot.plants,
+            &snapshot.logs,
+            values,
+            core,
+            &self.words,
+            &mut words,
+        ))?;
         Ok(told(words))
     }
 }

@@ -1,6 +1,6 @@
 //! Fault scripts.
 
-use crate::sys;
+use crate::raw::{self, EVENT_WORDS};
 use crate::Refusal;
 use std::fmt;
 
@@ -79,9 +79,6 @@ impl fmt::Display for ScriptError {
 
 impl std::error::Error for ScriptError {}
 
-/// The words of an event: tick, fault, id.
-pub const EVENT_WORDS: usize = 3;
-
 /// The shortest event that a text can hold, `0 heal 0` and its line feed, has nine bytes.
 const EVENT_BYTES: usize = 9;
 
@@ -97,11 +94,7 @@ pub fn parse_script(text: &[u8]) -> Result<FaultScript, ScriptError> {
 
 /// The same into lent words, three for each event; how many events there are. On an error no word is changed.
 pub fn parse_script_into(text: &[u8], events: &mut [u64]) -> Result<usize, ScriptError> {
-    // SAFETY: both pointers come from slices that are borrowed for the whole call, with their own lengths, and `events` is
-    // borrowed mutably, so that the two do not overlap.
-    let packed = unsafe {
-        sys::bellmantle_parse_script(text.as_ptr(), text.len(), events.as_mut_ptr(), events.len())
-    };
+    let packed = raw::parse_script(text, events);
     let low = packed as u32;
     match packed >> 32 {
         0 => Ok(low as usize),

@@ -1,13 +1,14 @@
-//! What the comparisons of the network and of the journal share: the places of a network's words, the hash that
-//! the replays take, and random options, ticks, draws and rooms.
+//! What the comparisons of the network and of the journal share: the places of a network's words, the words that are told of a call,
+//! and random options, ticks, draws and rooms.
 
+use crate::case::{Call, Case, Row};
 use crate::draws::Draws;
 
 /// Words of an output, and what fills it before it is lent.
 pub const ROOM: usize = 1_040;
 pub const PATTERN: u64 = 0xa5a5_5a5a_c3c3_3c3c;
 
-/// The places of a network's words, as `put` of crates/network_replay numbers them.
+/// The places of a network's words: the records, and behind them these.
 pub const PENDING: usize = 1_024;
 pub const SEQ: usize = 1_025;
 pub const SENT: usize = 1_026;
@@ -24,33 +25,84 @@ pub type Options = [u64; 5];
 /// What stands in our network for bits that are no probability.
 const TWO: f64 = 2.0;
 
-const FIRST_HASH: u64 = 0xcbf2_9ce4_8422_2325;
-
-/// FNV-1a, with a word for a byte.
-fn hash_on(words: &[u64], first: u64) -> u64 {
-    words.iter().fold(first, |hash, word| {
-        (hash ^ word).wrapping_mul(0x100_0000_01b3)
-    })
-}
-
-pub fn hash(words: &[u64]) -> u64 {
-    hash_on(words, FIRST_HASH)
-}
-
-/// The hash of a network's words: the options, the counts and then the records.
-pub fn hash_network(words: &[u64]) -> u64 {
-    let options = hash(&words[LOSS..=FLAG]);
-    let counts = hash_on(&words[PENDING..LOSS], options);
-    hash_on(&words[..PENDING], counts)
-}
-
-/// How many they are, and a list in a room of four.
-pub fn roomy(list: &[u64]) -> Vec<u64> {
-    let mut words = vec![list.len() as u64];
-    words.extend(list);
-    assert!(words.len() <= 5);
-    words.resize(5, 0);
+/// A network's head: its options, and behind them pending, seq and the counters.
+pub fn head(network: &[u64]) -> Vec<u64> {
+    let mut words = network[LOSS..=FLAG].to_vec();
+    words.extend(&network[PENDING..=DELAYED]);
     words
+}
+
+/// The row and place of a network's word.
+pub fn place(place: usize) -> (Row, usize) {
+    match place {
+        0..PENDING => (Row::Records, place),
+        PENDING..=DELAYED => (Row::Head, 5 + place - PENDING),
+        _ => (Row::Head, place - LOSS),
+    }
+}
+
+/// What a call tells if it is accepted. What it is told into is filled with a pattern before.
+pub enum Told {
+    Nothing,
+    /// Whether it is lost, whether it is replayed, draws and extras used.
+    Sent([u64; 4]),
+    /// The words that a list of records is written to, and how many they are.
+    Listed(Vec<u64>),
+    Count(u64),
+}
+
+/// A case on a network, with what it tells or the number of its refusal.
+pub fn case(call: Call, numbers: &[u64], answer: Result<Told, u64>) -> Case {
+    let mut case = Case::new(call, numbers, answer.as_ref().err().copied().unwrap_or(0));
+    for row in [Row::Told1, Row::Told4, Row::Out] {
+        if call.writes().contains(&row) {
+            case = case.filled(row, PATTERN);
+        }
+    }
+    match answer {
+        Err(number) => case.meets(format!("refusal {number}")),
+        Ok(Told::Nothing) => case,
+        Ok(Told::Sent(words)) => case.expects(Row::Told4, 0, &words),
+        Ok(Told::Count(count)) => case.expects(Row::Told1, 0, &[count]),
+        Ok(Told::Listed(words)) => {
+            let count = words.len() as u64 / 8;
+            let case = case.expects(Row::Told1, 0, &[count]);
+            case.expects(Row::Out, 0, &words)
+        }
+    }
+}
+
+/// The outcomes of a call that is accepted on a network of these words, and leaves those.
+pub fn outcomes(case: &Case, before: &[u64], after: &[u64]) -> Vec<&'static str> {
+    let told = |row: Row, place: usize| {
+        let words = case.after.iter().find(|words| words.row == row);
+        words.map_or(0, |words| words.words[place])
+    };
+    match case.call {
+        Call::NetworkSetOptions | Call::JournalSetOptions => vec!["options set"],
+        Call::NetworkSend | Call::JournalSend => {
+            let is_request = case.numbers[4] == 0;
+            let mut met = vec![match (told(Row::Told4, 0), told(Row::Told4, 1)) {
+                (1, _) => "lost",
+                (_, 1) => "replayed",
+                _ if is_request && before[FLAG] == 0 => "not faulted",
+                _ => "queued once",
+            }];
+            if before[DELAYED] < after[DELAYED] {
+                met.push("delayed");
+            }
+            if after[PENDING] == 128 {
+                met.push("left full");
+            }
+            met
+        }
+        Call::NetworkTakeDue | Call::JournalTakeDue => match told(Row::Told1, 0) {
+            0 => vec!["none taken"],
+            _ if after[PENDING] == 0 => vec!["all taken"],
+            _ => vec!["some taken"],
+        },
+        _ => Vec::new(),
+    }
 }
 
 /// A first tick.
