@@ -38,7 +38,15 @@ fn wide(b: u8) -> u64 {
     b as u64
 }
 
-// The number at a place. One that the list's end cuts off, or of more than ten bytes, is none.
+// Whether a byte of a number has bits past the 64th.
+fn is_past(shift: u32, byte: u64) -> bool {
+    if shift < 63 {
+        return false;
+    }
+    (63 < shift) | (1 < byte)
+}
+
+// The number at a place. One that the list's end cuts off, or that is no word, is none.
 pub fn number(list: &[u8], at: usize) -> Reading
     ensures { λ r. ⌜ r .next ≤ length (now (list .entry)) ⌝ }
 {
@@ -47,7 +55,7 @@ pub fn number(list: &[u8], at: usize) -> Reading
     let mut i = at;
     while i < list.len() {
         let byte = wide(list[i]);
-        if 63 < shift {
+        if is_past(shift, byte) {
             break;
         }
         value = value | ((byte & 127) << shift);
@@ -167,6 +175,14 @@ pub fn row_of(step: Turn) -> u64 {
     step.numbers[1]
 }
 
+// Whether the side of a step's words is one.
+fn is_sided(step: Turn) -> bool {
+    if step.sort == SHIFT {
+        return true;
+    }
+    step.numbers[0] <= 1
+}
+
 // Where the words go, in a row of so many.
 pub fn span_of(step: Turn, size: usize) -> Span
     ensures { λ s. ⌜ s .at + s .count ≤ size ⌝ }
@@ -177,11 +193,11 @@ pub fn span_of(step: Turn, size: usize) -> Span
         row: row_of(step),
         at: at,
         count: count,
-        fits: (at as u64 == step.numbers[2]) & (count as u64 == step.numbers[3]),
+        fits: (at as u64 == step.numbers[2]) & (count as u64 == step.numbers[3]) & is_sided(step),
     }
 }
 
-// Words of the list, put from a place on. Answers where the list goes on.
+// Words of the list, put from a place on. Answers where the list goes on, or 0 if it ends within them.
 fn put_words(list: &[u8], from: usize, expected: &mut [u64], at: usize, count: usize) -> usize
     requires { ⌜ (from ≤ length (now list)) × (at + count ≤ length (now expected)) ⌝ }
     ensures { λ r. ⌜ r ≤ length (now (list .entry)) ⌝ }
@@ -191,7 +207,7 @@ fn put_words(list: &[u8], from: usize, expected: &mut [u64], at: usize, count: u
     while i < count {
         let one = number(list, next);
         if !one.good {
-            return list.len();
+            return 0;
         }
         next = one.next;
         expected[at + i] = one.value;
@@ -235,21 +251,21 @@ fn move_up(expected: &mut [u64], from: usize, to: usize, count: usize)
     }
 }
 
-// Does what a step says to the words that are expected: its row has `size` of them from `start` on. Answers where the list goes on; a step
-// that does not fit its row ends it.
+// Does what a step says to the words that are expected: its row has `size` of them from `start` on. Answers where the list goes on, or 0
+// for a step that does not fit its row.
 pub fn edit(list: &[u8], step: Turn, expected: &mut [u64], start: usize, size: usize) -> usize
     requires { ⌜ step .next ≤ length (now list) ⌝ }
     ensures { λ r. ⌜ r ≤ length (now (list .entry)) ⌝ }
 {
     let span = span_of(step, size);
     if !span.fits {
-        return list.len();
+        return 0;
     }
     if expected.len() < size {
-        return list.len();
+        return 0;
     }
     if expected.len() - size < start {
-        return list.len();
+        return 0;
     }
     let at = start + span.at;
     if step.sort == WORDS {
@@ -259,31 +275,33 @@ pub fn edit(list: &[u8], step: Turn, expected: &mut [u64], start: usize, size: u
         put_word(expected, at, span.count, step.numbers[4]);
         return step.next;
     }
-    move_words(
-        expected,
-        start,
-        clamp(step.numbers[1], size),
-        at,
-        span.count,
-    );
+    if !move_words(expected, start, size, step.numbers[1], at, span.count) {
+        return 0;
+    }
     step.next
 }
 
-fn move_words(expected: &mut [u64], start: usize, place: usize, to: usize, count: usize)
-    requires { ⌜ (start ≤ length (now expected)) × (place ≤ length (now expected)) × (to + count ≤ length (now expected)) ⌝ }
+// Moves words within a row, if it has them.
+fn move_words(
+    expected: &mut [u64],
+    start: usize,
+    size: usize,
+    place: u64,
+    to: usize,
+    count: usize,
+) -> bool
+    requires { ⌜ (start + size ≤ length (now expected)) × (to + count ≤ length (now expected)) × (count ≤ size) ⌝ }
 {
-    let from = start + place;
-    if expected.len() < from {
-        return;
+    if ((size - count) as u64) < place {
+        return false;
     }
-    if expected.len() - from < count {
-        return;
-    }
+    let from = start + place as usize;
     if to < from {
         move_down(expected, from, to, count);
     } else {
         move_up(expected, from, to, count);
     }
+    true
 }
 
 // Whether a step's words go to the lent row too.
@@ -333,10 +351,14 @@ pub fn agrees(expected: &[u64], from: usize, row: &[u64]) -> bool {
 
 // ---- Counts
 
-// For each call: how often it was met, how often it differed, each answer's number and each outcome.
-const REFUSALS: usize = 2;
+// For each call: how often it was met, how often it differed, each refusal by its number, and what accepted ones came to.
+pub const TIMES: usize = 0;
 
-const OUTCOMES: usize = 64;
+pub const DIFFERING: usize = 1;
+
+pub const REFUSALS: usize = 2;
+
+pub const OUTCOMES: usize = 64;
 
 pub const EACH: usize = 84;
 
