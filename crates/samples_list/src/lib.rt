@@ -38,14 +38,6 @@ fn wide(b: u8) -> u64 {
     b as u64
 }
 
-// Whether a byte of a number has bits past the 64th.
-fn is_past(shift: u32, byte: u64) -> bool {
-    if shift < 63 {
-        return false;
-    }
-    (63 < shift) | (1 < byte)
-}
-
 // The number at a place. One that the list's end cuts off, or that is no word, is none.
 pub fn number(list: &[u8], at: usize) -> Reading
     ensures { λ r. ⌜ r .next ≤ length (now (list .entry)) ⌝ }
@@ -55,7 +47,10 @@ pub fn number(list: &[u8], at: usize) -> Reading
     let mut i = at;
     while i < list.len() {
         let byte = wide(list[i]);
-        if is_past(shift, byte) {
+        if 63 < shift {
+            break;
+        }
+        if (shift == 63) & (1 < byte) {
             break;
         }
         value = value | ((byte & 127) << shift);

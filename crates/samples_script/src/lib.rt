@@ -21,7 +21,9 @@ fn start_of(row: u64) -> usize
     BYTES
 }
 
-fn size_of(row: u64) -> usize {
+fn size_of(row: u64) -> usize
+    ensures { λ r. ⌜ r ≤ 65600 ⌝ }
+{
     if row == 0 {
         return BYTES;
     }

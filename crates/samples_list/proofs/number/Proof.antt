@@ -1,9 +1,10 @@
 -- `samples_list::number` is safe and ends. Assumes nothing.
 use native.Mathlib.Omega.{arith}
 use borrow.Author.Needs.{needs}
-use mathlib.Core.Path.{_≡_, refl}
+use mathlib.Core.Path.{_≡_, refl, sym}
 use Prim.Native.Nat.{ℕ, _+_, _-_, _*_, _≤_, _<_}
 use lib.ListN.{length, length-set}
+use lib.Seq.{length-take-le}
 use Rattle.samples_list.proofs.number.Statement.{statement}
 use Rattle.samples_list.proofs.number.Tie as tie
 
@@ -49,6 +50,9 @@ returns-2 c = search needs
 returns-3 : tie.Need-returns-3 Inv-loop μ-loop
 returns-3 c = search needs
 
+returns-4 : tie.Need-returns-4 Inv-loop μ-loop
+returns-4 c = search needs
+
 pub number-spec : {M : Type 1} → statement M
 number-spec =
     tie.close
@@ -66,4 +70,5 @@ number-spec =
     loop-less
     loop-again
     returns-2
-    returns-3)
+    returns-3
+    returns-4)
