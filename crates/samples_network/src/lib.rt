@@ -297,8 +297,50 @@ fn journal_call(
     }
 }
 
+// Runs a call.
+fn run(
+    n: [u64; samples_list::NUMBERS],
+    head: &mut [u64; network_words::HEAD_WORDS],
+    records: &mut [u64; network_queue::WORDS],
+    draws: &[u64],
+    extras: &[u64],
+    sends: &[u64],
+    out: &mut [u64],
+    journal: &mut [u64],
+    told_one: &mut [u64; 1],
+    told_three: &mut [u64; 3],
+    told_four: &mut [u64; 4],
+) -> u64 {
+    if n[0] < 8 {
+        return network_call(
+            n,
+            head,
+            records,
+            draws,
+            extras,
+            sends,
+            out,
+            told_one,
+            told_three,
+            told_four,
+        );
+    }
+    journal_call(
+        n,
+        head,
+        records,
+        draws,
+        extras,
+        out,
+        journal,
+        told_one,
+        told_four,
+    )
+}
+
 // ---- What a call is held against, and what it came to
 
+// Whether the rows that calls write are as they are expected.
 fn is_kept(
     expected: &[u64],
     head: &[u64],
@@ -371,32 +413,19 @@ fn call(
     counts: &mut [u64],
 ) {
     let which = n[0];
-    let answer = if which < 8 {
-        network_call(
-            n,
-            head,
-            records,
-            draws,
-            extras,
-            sends,
-            out,
-            told_one,
-            told_three,
-            told_four,
-        )
-    } else {
-        journal_call(
-            n,
-            head,
-            records,
-            draws,
-            extras,
-            out,
-            journal,
-            told_one,
-            told_four,
-        )
-    };
+    let answer = run(
+        n,
+        head,
+        records,
+        draws,
+        extras,
+        sends,
+        out,
+        journal,
+        told_one,
+        told_three,
+        told_four,
+    );
     let kept = is_kept(
         expected,
         head,
