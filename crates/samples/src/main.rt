@@ -40,15 +40,22 @@ fn name_end(names: &[u8], from: usize) -> usize
     i
 }
 
+// The place behind one, if it is there.
+fn behind(names: &[u8], at: usize) -> usize
+    ensures { λ r. ⌜ r ≤ length (now (names .entry)) ⌝ }
+{
+    if at < names.len() {
+        return at + 1;
+    }
+    names.len()
+}
+
 // Prints one of a row of names, by its place among them.
 fn say_name(names: &[u8], which: usize) {
     let mut from: usize = 0;
     let mut i: usize = 0;
     while i < which {
-        from = name_end(names, from);
-        if from < names.len() {
-            from += 1;
-        }
+        from = behind(names, name_end(names, from));
         i += 1;
     }
     let end = name_end(names, from);
@@ -131,20 +138,23 @@ fn is_told(counts: &[u64], at: usize, place: usize) -> bool
     0 < counts[at - 1]
 }
 
-fn say_line(at: usize, n: u64) {
+// Prints a count with its key, if it is told.
+fn say_line(counts: &[u64], at: usize)
+    requires { ⌜ at < length (now counts) ⌝ }
+{
     let which = at / samples_list::EACH;
     let place = at % samples_list::EACH;
-    say_call(which);
-    say_key(which, place);
-    say_count(n);
+    if is_told(counts, at, place) {
+        say_call(which);
+        say_key(which, place);
+        say_count(counts[at]);
+    }
 }
 
 fn say_counts(counts: &[u64]) {
     let mut at: usize = 0;
     while at < counts.len() {
-        if is_told(counts, at, at % samples_list::EACH) {
-            say_line(at, counts[at]);
-        }
+        say_line(counts, at);
         at += 1;
     }
 }
