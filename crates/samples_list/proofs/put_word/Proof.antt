@@ -1,0 +1,57 @@
+-- `samples_list::put_word` is safe and ends. Assumes nothing.
+use native.Mathlib.Omega.{arith}
+use borrow.Author.Needs.{needs}
+use mathlib.Core.Path.{_≡_, refl}
+use Prim.Native.Nat.{ℕ, _+_, _-_, _*_, _≤_, _<_}
+use lib.ListN.{length, length-set}
+use Rattle.samples_list.proofs.put_word.Statement.{statement}
+use Rattle.samples_list.proofs.put_word.Tie as tie
+
+abbrev Inv-loop : tie.InvT-loop
+Inv-loop expected₀ at count word i₀ expected i = (i ≤ count) × (length expected ≡ length expected₀)
+
+abbrev μ-loop : tie.MeasureT-loop
+μ-loop expected₀ at count word i₀ expected i = count - i
+
+loop-holds : tie.Need-loop-holds Inv-loop μ-loop
+loop-holds c = search needs
+
+add-expected : tie.Need-add-expected Inv-loop μ-loop
+add-expected c = search needs
+
+mul-expected : tie.Need-mul-expected Inv-loop μ-loop
+mul-expected c = search needs
+
+slice-write-expected : tie.Need-slice-write-expected Inv-loop μ-loop
+slice-write-expected c = search needs
+
+add-i : tie.Need-add-i Inv-loop μ-loop
+add-i c = search needs
+
+loop-less : tie.Need-loop-less Inv-loop μ-loop
+loop-less c = search needs
+
+loop-again : tie.Need-loop-again Inv-loop μ-loop
+loop-again c = search needs
+
+same-length : tie.Need-same-length Inv-loop μ-loop
+same-length c = search needs
+
+returns : tie.Need-returns Inv-loop μ-loop
+returns c = search needs
+
+pub put-word-spec : {M : Type 1} → statement M
+put-word-spec =
+    tie.close
+    (tie.spec
+    Inv-loop
+    μ-loop
+    loop-holds
+    add-expected
+    mul-expected
+    slice-write-expected
+    add-i
+    loop-less
+    loop-again
+    same-length
+    returns)
