@@ -14,7 +14,7 @@ ghost use Rattle.network_form.specs.Calls.{written};
 ghost use Rattle.network_send.specs.Sends.{letterOf};
 ghost use Rattle.network_take.specs.Takes.{dueIn};
 ghost use Rattle.network_words.specs.Layout.{headIn, optionsFrom};
-ghost use Rattle.network_words.specs.Calls.{numberOf, sendTold, newRows, optionRows, sendRows, takeRows, countRows, listRows};
+ghost use Rattle.network_words.specs.Calls.{answerCode, sendTold, newRows, optionRows, sendRows, takeRows, countRows, listRows};
 ghost use Rattle.network_batch.specs.Ticks.{ticked};
 ghost use Rattle.journal_calls.specs.Calls.{sends, takes, chooses, markAnswer, markWords};
 ghost use Rattle.journal_words.specs.Calls.{journalAnswer, journalHead, journalRecords, journalWords};
@@ -188,7 +188,7 @@ pub extern "C" fn bellmantle_network_tick(
 // Forgets the calls held.
 #[no_mangle]
 pub extern "C" fn bellmantle_journal_mark(journal: &mut [u64]) -> u64
-    ensures answer { λ r. ⌜ r ≡ numberOf (markAnswer (now (journal .entry))) ⌝ }
+    ensures answer { λ r. ⌜ r ≡ answerCode (markAnswer (now (journal .entry))) ⌝ }
     ensures journal { λ _. ⌜ now (journal .exit) ≡ markWords (now (journal .entry)) ⌝ }
 {
     journal_words::mark(journal)
@@ -211,7 +211,7 @@ pub extern "C" fn bellmantle_journal_send(
     told: &mut [u64; 4],
 ) -> u64
     ensures answer { λ r. ⌜ r
-        ≡ numberOf (journalAnswer (sends now sort origin to kind handle (draws .entry .now) (extras .entry .now)) (head .entry .now) (records .entry .now) (journal .entry .now)) ⌝ }
+        ≡ answerCode (journalAnswer (sends now sort origin to kind handle (draws .entry .now) (extras .entry .now)) (head .entry .now) (records .entry .now) (journal .entry .now)) ⌝ }
     ensures head { λ _. ⌜ head .exit .now
         ≡ journalHead (sends now sort origin to kind handle (draws .entry .now) (extras .entry .now)) (head .entry .now) (records .entry .now) (journal .entry .now) ⌝ }
     ensures records { λ _. ⌜ records .exit .now
@@ -248,7 +248,7 @@ pub extern "C" fn bellmantle_journal_take_due(
     journal: &mut [u64],
     told: &mut [u64; 1],
 ) -> u64
-    ensures answer { λ r. ⌜ r ≡ numberOf (journalAnswer (takes now (length (out .entry .now))) (head .entry .now) (records .entry .now) (journal .entry .now)) ⌝ }
+    ensures answer { λ r. ⌜ r ≡ answerCode (journalAnswer (takes now (length (out .entry .now))) (head .entry .now) (records .entry .now) (journal .entry .now)) ⌝ }
     ensures head { λ _. ⌜ head .exit .now ≡ journalHead (takes now (length (out .entry .now))) (head .entry .now) (records .entry .now) (journal .entry .now) ⌝ }
     ensures records { λ _. ⌜ records .exit .now ≡ journalRecords (takes now (length (out .entry .now))) (head .entry .now) (records .entry .now) (journal .entry .now) ⌝ }
     ensures out { λ _. ⌜ out .exit .now
@@ -274,7 +274,7 @@ pub extern "C" fn bellmantle_journal_set_options(
     flag: u64,
     journal: &mut [u64],
 ) -> u64
-    ensures answer { λ r. ⌜ r ≡ numberOf (journalAnswer (chooses (optionsFrom loss replay min mean flag)) (now (head .entry)) (now (records .entry)) (now (journal .entry))) ⌝ }
+    ensures answer { λ r. ⌜ r ≡ answerCode (journalAnswer (chooses (optionsFrom loss replay min mean flag)) (now (head .entry)) (now (records .entry)) (now (journal .entry))) ⌝ }
     ensures head { λ _. ⌜ now (head .exit) ≡ journalHead (chooses (optionsFrom loss replay min mean flag)) (now (head .entry)) (now (records .entry)) (now (journal .entry)) ⌝ }
     ensures journal { λ _. ⌜ now (journal .exit) ≡ journalWords (chooses (optionsFrom loss replay min mean flag)) (now (head .entry)) (now (records .entry)) (now (journal .entry)) ⌝ }
 {
@@ -289,7 +289,7 @@ pub extern "C" fn bellmantle_journal_rewind(
     k: u64,
     journal: &mut [u64],
 ) -> u64
-    ensures answer { λ r. ⌜ r ≡ numberOf (journalAnswer (rewind k) (now (head .entry)) (now (records .entry)) (now (journal .entry))) ⌝ }
+    ensures answer { λ r. ⌜ r ≡ answerCode (journalAnswer (rewind k) (now (head .entry)) (now (records .entry)) (now (journal .entry))) ⌝ }
     ensures head { λ _. ⌜ now (head .exit) ≡ journalHead (rewind k) (now (head .entry)) (now (records .entry)) (now (journal .entry)) ⌝ }
     ensures records { λ _. ⌜ now (records .exit) ≡ journalRecords (rewind k) (now (head .entry)) (now (records .entry)) (now (journal .entry)) ⌝ }
     ensures journal { λ _. ⌜ now (journal .exit) ≡ journalWords (rewind k) (now (head .entry)) (now (records .entry)) (now (journal .entry)) ⌝ }

@@ -22,7 +22,7 @@ use Rattle.network.specs.Calls.{firstNetwork}
 use Rattle.network.proofs.Structs.{plain-formed, plain-of-struct, struct-formed}
 use Rattle.network_options.proofs.OptionForms.{tests-pass}
 use Rattle.journal_calls.specs.Calls.{stateOf, stepOf, networkAfter}
-use Rattle.journal.specs.Night.{Held, Turn, Settled, Marked, Made, Night, endOf, callsOf, entriesOf, evening, Demand3}
+use Rattle.journal.specs.Night.{Held, Turn, Settled, Marked, Happened, Night, endOf, callsOf, entriesOf, evening, Demand3}
 
 -- what the host holds is a state of the plain form
 record Same (h : Held) (s : State) : Type 0 where
@@ -98,9 +98,9 @@ marked-same h f a after m =
       },
     )
 
-made-same : (h : Held) → isFormed (h .network) ≡ true → (c : Call) (a : Answer) (after : Held) → Made h c a after
+made-same : (h : Held) → isFormed (h .network) ≡ true → (c : Call) (a : Answer) (after : Held) → Happened h c a after
     → (a ≡ step fateOf (stateOf (h .network) (h .words)) c .answer) × Same after (step fateOf (stateOf (h .network) (h .words)) c .state)
-unfolding Made
+unfolding Happened
 made-same h f (change c) a after m = settled-same h f (change c) a after m
 made-same h f (rewind k) a after m = settled-same h f (rewind k) a after m
 made-same h f mark a after m = marked-same h f a after m

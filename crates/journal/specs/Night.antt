@@ -36,15 +36,15 @@ pub record Marked (h : Held) (answer : Answer) (after : Held) : Type 0 where
   pub network : after .network ≡ h .network
   pub words : after .words ≡ markWords (h .words)
 
-unfoldable pub Made : Held → Call → Answer → Held → Type 0
-Made h (change c) answer after = Settled h (change c) answer after
-Made h (rewind k) answer after = Settled h (rewind k) answer after
-Made h mark answer after = Marked h answer after
+unfoldable pub Happened : Held → Call → Answer → Held → Type 0
+Happened h (change c) answer after = Settled h (change c) answer after
+Happened h (rewind k) answer after = Settled h (rewind k) answer after
+Happened h mark answer after = Marked h answer after
 
 -- one call after the other
 unfoldable pub Night : Held → List Turn → Type 0
 Night h [] = Unit {0}
-Night h (t ∷ ts) = Made h (t .call) (t .answer) (t .after) × Night (t .after) ts
+Night h (t ∷ ts) = Happened h (t .call) (t .answer) (t .after) × Night (t .after) ts
 
 -- what the host holds at the end
 unfoldable pub endOf : Held → List Turn → Held

@@ -7,15 +7,15 @@ use lib.ListN.{length, drop}
 use Rattle.nights.specs.Tests.{Answer, done, refused, ifDone}
 use Rattle.network_form.specs.Calls.{written}
 use Rattle.network_words.specs.Layout.{headFits}
-use Rattle.network_words.specs.Calls.{numberOf, ifHead}
+use Rattle.network_words.specs.Calls.{answerCode, ifHead}
 use Rattle.network_words.proofs.Heads.{no-head, a-head}
 
 pub record Kept (a : Answer) (k : ℕ) : Type 0 where
-  pub number : k ≡ numberOf a
+  pub number : k ≡ answerCode a
   pub words : (after before : List ℕ) → before ≡ ifDone a after before
 
 pub record Done (a : Answer) : Type 0 where
-  pub number : 0 ≡ numberOf a
+  pub number : 0 ≡ answerCode a
   pub words : (after before : List ℕ) → after ≡ ifDone a after before
 
 pub kept : (a : Answer) (k : ℕ) → a ≡ refused k → Kept a k

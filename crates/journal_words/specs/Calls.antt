@@ -11,11 +11,11 @@ use Rattle.network_words.specs.Layout.{headIn, headWords}
 use Rattle.network_words.specs.Calls.{ifHead}
 
 -- the network of a head and its records, and that of a head's words and records
-abbrev pub joined : Head → List ℕ → Network
-joined h w = record { head = h; words = w }
+abbrev pub networkOf : Head → List ℕ → Network
+networkOf h w = record { head = h; words = w }
 
 abbrev pub networkIn : List ℕ → List ℕ → Network
-networkIn h r = joined (headIn h) r
+networkIn h r = networkOf (headIn h) r
 
 module _ (c : Call) (h r j : List ℕ) where
   abbrev pub journalAnswer : Answer

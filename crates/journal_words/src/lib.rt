@@ -25,14 +25,14 @@ ghost use Rattle.network.specs.Forms.{plainOf, isFormed};
 ghost use Rattle.network_options.specs.Options.{structOptions};
 ghost use Rattle.network_form.specs.Calls.{written};
 ghost use Rattle.network_words.specs.Layout.{optionsFrom, headWords};
-ghost use Rattle.journal_words.specs.Calls.{joined, networkIn, journalAnswer, journalHead, journalRecords, journalWords};
-ghost use Rattle.network_words.specs.Calls.{numberOf, sendTold};
+ghost use Rattle.journal_words.specs.Calls.{networkOf, networkIn, journalAnswer, journalHead, journalRecords, journalWords};
+ghost use Rattle.network_words.specs.Calls.{answerCode, sendTold};
 ghost use Rattle.nights.specs.Tests.{ifDone};
 ghost use Rattle.journal_calls.specs.Calls.{sends, takes, chooses, markAnswer, markWords};
 
 // The number of a call that has nothing more to tell.
 fn settled_number(answer: Settled) -> u64
-    ensures { λ r. ⌜ r ≡ numberOf (settledOf answer) ⌝ }
+    ensures { λ r. ⌜ r ≡ answerCode (settledOf answer) ⌝ }
 {
     match answer {
         Settled::Done => 0,
@@ -42,7 +42,7 @@ fn settled_number(answer: Settled) -> u64
 
 // The network of a head and its records.
 fn read(head: Head, records: &[u64; WORDS]) -> Network
-    ensures { λ r. ⌜ r ≡ joined head (now (records .entry)) ⌝ }
+    ensures { λ r. ⌜ r ≡ networkOf head (now (records .entry)) ⌝ }
 {
     let words = *records;
     Network {
@@ -64,7 +64,7 @@ fn write(network: Network, head: &mut [u64; HEAD_WORDS], records: &mut [u64; WOR
 
 // Forgets the calls held.
 pub fn mark(journal: &mut [u64]) -> u64
-    ensures answer { λ r. ⌜ r ≡ numberOf (markAnswer (now (journal .entry))) ⌝ }
+    ensures answer { λ r. ⌜ r ≡ answerCode (markAnswer (now (journal .entry))) ⌝ }
     ensures journal { λ _. ⌜ now (journal .exit) ≡ markWords (now (journal .entry)) ⌝ }
 {
     settled_number(journal_mark::mark(journal))
@@ -86,7 +86,7 @@ pub fn send(
     told: &mut [u64; 4],
 ) -> u64
     ensures answer { λ r. ⌜ r
-        ≡ numberOf (journalAnswer (sends now sort origin to kind handle (draws .entry .now) (extras .entry .now)) (head .entry .now) (records .entry .now) (journal .entry .now)) ⌝ }
+        ≡ answerCode (journalAnswer (sends now sort origin to kind handle (draws .entry .now) (extras .entry .now)) (head .entry .now) (records .entry .now) (journal .entry .now)) ⌝ }
     ensures head { λ _. ⌜ head .exit .now
         ≡ journalHead (sends now sort origin to kind handle (draws .entry .now) (extras .entry .now)) (head .entry .now) (records .entry .now) (journal .entry .now) ⌝ }
     ensures records { λ _. ⌜ records .exit .now
@@ -144,7 +144,7 @@ pub fn take_due(
     journal: &mut [u64],
     told: &mut [u64; 1],
 ) -> u64
-    ensures answer { λ r. ⌜ r ≡ numberOf (journalAnswer (takes now (length (out .entry .now))) (head .entry .now) (records .entry .now) (journal .entry .now)) ⌝ }
+    ensures answer { λ r. ⌜ r ≡ answerCode (journalAnswer (takes now (length (out .entry .now))) (head .entry .now) (records .entry .now) (journal .entry .now)) ⌝ }
     ensures head { λ _. ⌜ head .exit .now ≡ journalHead (takes now (length (out .entry .now))) (head .entry .now) (records .entry .now) (journal .entry .now) ⌝ }
     ensures records { λ _. ⌜ records .exit .now ≡ journalRecords (takes now (length (out .entry .now))) (head .entry .now) (records .entry .now) (journal .entry .now) ⌝ }
     ensures out { λ _. ⌜ out .exit .now
@@ -197,7 +197,7 @@ pub fn set_options(
     flag: u64,
     journal: &mut [u64],
 ) -> u64
-    ensures answer { λ r. ⌜ r ≡ numberOf (journalAnswer (chooses (optionsFrom loss replay min mean flag)) (now (head .entry)) (now (records .entry)) (now (journal .entry))) ⌝ }
+    ensures answer { λ r. ⌜ r ≡ answerCode (journalAnswer (chooses (optionsFrom loss replay min mean flag)) (now (head .entry)) (now (records .entry)) (now (journal .entry))) ⌝ }
     ensures head { λ _. ⌜ now (head .exit) ≡ journalHead (chooses (optionsFrom loss replay min mean flag)) (now (head .entry)) (now (records .entry)) (now (journal .entry)) ⌝ }
     ensures journal { λ _. ⌜ now (journal .exit) ≡ journalWords (chooses (optionsFrom loss replay min mean flag)) (now (head .entry)) (now (records .entry)) (now (journal .entry)) ⌝ }
 {
@@ -232,7 +232,7 @@ pub fn rewind(
     k: u64,
     journal: &mut [u64],
 ) -> u64
-    ensures answer { λ r. ⌜ r ≡ numberOf (journalAnswer (rewind k) (now (head .entry)) (now (records .entry)) (now (journal .entry))) ⌝ }
+    ensures answer { λ r. ⌜ r ≡ answerCode (journalAnswer (rewind k) (now (head .entry)) (now (records .entry)) (now (journal .entry))) ⌝ }
     ensures head { λ _. ⌜ now (head .exit) ≡ journalHead (rewind k) (now (head .entry)) (now (records .entry)) (now (journal .entry)) ⌝ }
     ensures records { λ _. ⌜ now (records .exit) ≡ journalRecords (rewind k) (now (head .entry)) (now (records .entry)) (now (journal .entry)) ⌝ }
     ensures journal { λ _. ⌜ now (journal .exit) ≡ journalWords (rewind k) (now (head .entry)) (now (records .entry)) (now (journal .entry)) ⌝ }

@@ -14,7 +14,7 @@ ghost use mathlib.Core.Path.{_≡_};
 ghost use mathlib.Core.Bool.{true};
 ghost use mathlib.Core.List.{[]};
 ghost use lib.ListN.{length};
-ghost use Rattle.nights.specs.Net.{goodOptions, fresh, send, collect, choose};
+ghost use Rattle.nights.specs.Net.{capacity, sentLimit, goodOptions, fresh, send, collect, choose};
 ghost use Rattle.nights.specs.Tests.{verdict, optionTests};
 ghost use Rattle.network_queue.specs.Packed.{arraySize};
 ghost use Rattle.network_options.specs.Options.{plainOptions};
@@ -103,6 +103,19 @@ impl Network {
     pub const CAPACITY: usize = network_queue::CAPACITY;
 
     pub const SENT_LIMIT: u64 = network_form::SENT_LIMIT;
+
+    // The two limits, which are those of the rules.
+    pub fn most_pending() -> usize
+        ensures { λ r. ⌜ r ≡ capacity ⌝ }
+    {
+        Network::CAPACITY
+    }
+
+    pub fn most_sent() -> u64
+        ensures { λ r. ⌜ r ≡ sentLimit ⌝ }
+    {
+        Network::SENT_LIMIT
+    }
 
     // A fresh network of these options: nothing in flight, nothing counted. Beside a refusal stands that of the perfect options.
     pub fn new(options: NetworkOptions) -> Next

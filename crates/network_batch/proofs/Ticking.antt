@@ -15,7 +15,7 @@ use Rattle.network_take.specs.Takes.{dueIn, takeGives}
 use Rattle.network_words.specs.Layout.{headFits, headIn, headWords}
 use Rattle.network_words.specs.Calls.{Rows}
 use Rattle.network_words.proofs.Heads.{no-head, a-head}
-use Rattle.network_batch.specs.Ticks.{messageWords, mostMessages, numberAt, Ran, all, stopped, sendsFrom, refusedAt, taking, afterSends, tested, ticked}
+use Rattle.network_batch.specs.Ticks.{messageWords, mostMessages, numberAt, Ran, all, stopped, sendsFrom, refusedAt, takingLast, afterSends, batchTested, ticked}
 
 module _ (h r sends draws extras : List ℕ) (now : ℕ) (out told : List ℕ) where
   abbrev whole : Rows
@@ -42,27 +42,27 @@ module _ (h r sends draws extras : List ℕ) (now : ℕ) (out told : List ℕ) w
   refuses k p e n q = let l = leaves (refuse k p) e in (q ∙ l .0, l .1)
 
   pub unread : headFits h ≡ false → (n : ℕ) → n ≡ numberAt 23 0 → Ticked n h r out told
-  unfolding tested
-  unread f = refuses 23 0 (ap (tested h r sends draws extras now out told) (no-head h (formAnswer (headIn h) r) f))
+  unfolding batchTested
+  unread f = refuses 23 0 (ap (batchTested h r sends draws extras now out told) (no-head h (formAnswer (headIn h) r) f))
 
   module _ (f : headFits h ≡ true) where
     pub ill-formed : formedIn (headIn h) r ≡ false → (n : ℕ) → n ≡ numberAt 23 0 → Ticked n h r out told
-    unfolding tested
+    unfolding batchTested
     ill-formed w =
         refuses 23 0
-        (ap (tested h r sends draws extras now out told) (a-head h (formAnswer (headIn h) r) f ∙ form-ill (headIn h) r w))
+        (ap (batchTested h r sends draws extras now out told) (a-head h (formAnswer (headIn h) r) f ∙ form-ill (headIn h) r w))
 
     module _ (w : formedIn (headIn h) r ≡ true) where
-      opens : whole ≡ tested h r sends draws extras now out told done
-      opens = ap (tested h r sends draws extras now out told) (a-head h (formAnswer (headIn h) r) f ∙ form-well (headIn h) r w)
+      opens : whole ≡ batchTested h r sends draws extras now out told done
+      opens = ap (batchTested h r sends draws extras now out told) (a-head h (formAnswer (headIn h) r) f ∙ form-well (headIn h) r w)
 
       pub too-many : mostMessages < length sends / messageWords → (n : ℕ) → n ≡ numberAt 24 mostMessages → Ticked n h r out told
-      unfolding tested
+      unfolding batchTested
       too-many c = refuses 24 mostMessages (opens ∙ rw (lt-leb (length sends / messageWords) mostMessages c))
 
       module _ (c : length sends / messageWords ≤ mostMessages) where
         pub broken : (length sends ≡ messageWords * (length sends / messageWords) → ⊥) → (n : ℕ) → n ≡ numberAt 24 (length sends / messageWords) → Ticked n h r out told
-        unfolding tested
+        unfolding batchTested
         broken e =
             refuses 24 (length sends / messageWords)
             (opens
@@ -73,7 +73,7 @@ module _ (h r sends draws extras : List ℕ) (now : ℕ) (out told : List ℕ) w
           ran = sendsFrom sends draws extras (length sends / messageWords) 0 0 0 (headIn h) r
 
           sends-first : whole ≡ afterSends h r sends draws extras now out told ran
-          unfolding tested
+          unfolding batchTested
           sends-first =
               opens
               ∙ rw (le-leb (length sends / messageWords) mostMessages c, eq-eqb (length sends) (messageWords * (length sends / messageWords)) e)
@@ -83,15 +83,15 @@ module _ (h r sends draws extras : List ℕ) (now : ℕ) (out told : List ℕ) w
           send-refused k p q = refuses k p (sends-first ∙ ap (afterSends h r sends draws extras now out told) q)
 
           module _ (t : Head) (v : List ℕ) (d x : ℕ) (q : ran ≡ all t v d x) where
-            takes-then : whole ≡ taking h r sends draws extras now out told (answerIn (collect now (length out)) t v) t v d x
+            takes-then : whole ≡ takingLast h r sends draws extras now out told (answerIn (collect now (length out)) t v) t v d x
             unfolding afterSends
             takes-then = sends-first ∙ ap (afterSends h r sends draws extras now out told) q
 
             pub take-refused : (k : ℕ) → answerIn (collect now (length out)) t v ≡ refused k → (n : ℕ) → n ≡ numberAt k (length sends / messageWords)
                 → (o : List ℕ) → o ≡ takeGives now out t v → Ticked n h r o told
-            unfolding taking ifDone
+            unfolding takingLast ifDone
             take-refused k a n m o u =
-                let l = refuses k (length sends / messageWords) (takes-then ∙ ap (λ (z : Answer). taking h r sends draws extras now out told z t v d x) a) n m in
+                let l = refuses k (length sends / messageWords) (takes-then ∙ ap (λ (z : Answer). takingLast h r sends draws extras now out told z t v d x) a) n m in
                 (l .0, (l .1 .0, (l .1 .1 .0, ((rw a at u) ∙ l .1 .1 .1 .0, l .1 .1 .1 .1))))
 
             pub all-done : answerIn (collect now (length out)) t v ≡ done
@@ -99,9 +99,9 @@ module _ (h r sends draws extras : List ℕ) (now : ℕ) (out told : List ℕ) w
                 → (a b o : List ℕ) → a ≡ headWords s → b ≡ recordsAfter (collect now (length out)) t v → o ≡ takeGives now out t v
                 → (k : ℕ) → k ≡ length (dueIn now t v)
                 → Ticked 0 a b o (d ∷ x ∷ k ∷ [])
-            unfolding taking ifDone
+            unfolding takingLast ifDone
             all-done e s j a b o p y u k m =
-                let l = leaves (taking h r sends draws extras now out told done t v d x) (takes-then ∙ ap (λ (z : Answer). taking h r sends draws extras now out told z t v d x) e) in (
+                let l = leaves (takingLast h r sends draws extras now out told done t v d x) (takes-then ∙ ap (λ (z : Answer). takingLast h r sends draws extras now out told z t v d x) e) in (
                   l .0,
                   (
                     p ∙ (ap headWords j ∙ l .1 .0),

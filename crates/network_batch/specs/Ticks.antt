@@ -69,8 +69,8 @@ module _ (h r sends draws extras : List ℕ) (now : ℕ) (out told : List ℕ) w
   count = length sends / messageWords
 
   -- the take, after the sends
-  unfoldable pub taking : Answer → Head → List ℕ → (d x : ℕ) → Rows
-  taking done t w d x =
+  unfoldable pub takingLast : Answer → Head → List ℕ → (d x : ℕ) → Rows
+  takingLast done t w d x =
       record {
         number = 0;
         head = headWords (headAfter (collect now (length out)) t w);
@@ -78,24 +78,24 @@ module _ (h r sends draws extras : List ℕ) (now : ℕ) (out told : List ℕ) w
         out = inFront (recordWords (dueIn now t w)) out;
         told = d ∷ x ∷ length (dueIn now t w) ∷ [];
       }
-  taking (refused k) t w d x = refusedAt k count
+  takingLast (refused k) t w d x = refusedAt k count
 
   unfoldable pub afterSends : Ran → Rows
   afterSends (stopped k place) = refusedAt k place
-  afterSends (all t w d x) = taking (answerIn (collect now (length out)) t w) t w d x
+  afterSends (all t w d x) = takingLast (answerIn (collect now (length out)) t w) t w d x
 
-  -- the network is tested first (23, at place 0); then that the list has at most 65,536 messages and is whole ones (24, at the place
+  -- the network is batchTested first (23, at place 0); then that the list has at most 65,536 messages and is whole ones (24, at the place
   -- of the first that is over or broken)
-  unfoldable pub tested : Answer → Rows
-  tested (refused k) = refusedAt k 0
-  tested done =
+  unfoldable pub batchTested : Answer → Rows
+  batchTested (refused k) = refusedAt k 0
+  batchTested done =
       cond (leb count mostMessages)
       (cond (eqb (length sends) (messageWords * count)) (afterSends (sendsFrom sends draws extras count 0 0 0 (headIn h) r))
       (refusedAt 24 count))
       (refusedAt 24 mostMessages)
 
   abbrev pub ticked : Rows
-  ticked = tested (ifHead h (formAnswer (headIn h) r))
+  ticked = batchTested (ifHead h (formAnswer (headIn h) r))
 
 -- INSIDE: what the code's run of the sends says
 abbrev pub ranOf : Run → List ℕ → Ran

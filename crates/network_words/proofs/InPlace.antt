@@ -20,16 +20,16 @@ use Rattle.network_form.specs.Forms.{formedIn}
 use Rattle.network_form.specs.Calls.{answerIn, headAfter}
 use Rattle.network_form.proofs.Calling.{call-well, head-follows}
 use Rattle.network_words.specs.Layout.{headIn, headWords, optionWords}
-use Rattle.network_words.specs.Calls.{numberOf}
+use Rattle.network_words.specs.Calls.{answerCode}
 
 module _ (o : Options) where
   -- 0 answers good ones alone
-  pub number-done : numberOf (verdict (optionTests o [])) ≡ 0 → verdict (optionTests o []) ≡ done
+  pub number-done : answerCode (verdict (optionTests o [])) ≡ 0 → verdict (optionTests o []) ≡ done
   unfolding verdict
   number-done e = go (goodWord (o .loss)) (goodWord (o .replay)) (leb (o .least) (o .mean)) e
     where
       go : (a b c : Bool)
-          → numberOf (verdict (record { passes = a; number = 20 } ∷ record { passes = b; number = 21 } ∷ record { passes = c; number = 22 } ∷ [])) ≡ 0
+          → answerCode (verdict (record { passes = a; number = 20 } ∷ record { passes = b; number = 21 } ∷ record { passes = c; number = 22 } ∷ [])) ≡ 0
           → verdict (record { passes = a; number = 20 } ∷ record { passes = b; number = 21 } ∷ record { passes = c; number = 22 } ∷ []) ≡ done
       go true true true h = refl
       go true true false h = absurd (omega arith)

@@ -17,7 +17,7 @@ use Rattle.network_take.specs.declared.Counted.{Counted}
 use Rattle.network_take.specs.declared.Counted.the-variants.{Records, Refused as Uncounted}
 use Rattle.network_take.specs.Takes.{Count, countedOf, counting}
 use Rattle.network_words.specs.Layout.{headFits}
-use Rattle.network_words.specs.Calls.{numberOf, Rows, byAnswer, ifHead, sendTold}
+use Rattle.network_words.specs.Calls.{answerCode, Rows, byAnswer, ifHead, sendTold}
 use Rattle.network_words.proofs.Heads.{no-head, a-head}
 
 -- ---- the rows by the answer
@@ -47,11 +47,11 @@ finished a e =
     record { number = λ w c. rw e; head = λ w c. rw e; records = λ w c. rw e; out = λ w c. rw e; told = λ w c. rw e }
 
 -- a number that is not 0 is a refusal's
-pub number-refused : (a : Answer) (n : ℕ) → n ≡ numberOf a → (n ≡ 0 → ⊥) → a ≡ refused n
+pub number-refused : (a : Answer) (n : ℕ) → n ≡ answerCode a → (n ≡ 0 → ⊥) → a ≡ refused n
 number-refused done n e h = absurd (h e)
 number-refused (refused k) n e h = ap refused (sym e)
 
-pub kept-by : (a : Answer) (n : ℕ) → n ≡ numberOf a → (n ≡ 0 → ⊥) → Kept a n
+pub kept-by : (a : Answer) (n : ℕ) → n ≡ answerCode a → (n ≡ 0 → ⊥) → Kept a n
 kept-by a n e h = kept a n (number-refused a n e h)
 
 -- of words that are no head, and of words that are one

@@ -15,9 +15,9 @@ use Rattle.network_take.specs.Takes.{dueIn}
 use Rattle.network_words.specs.Layout.{optionsIn, headFits, headIn, optionWords, headWords}
 
 -- an answer as a number: 0 if it is done
-abbrev pub numberOf : Answer → ℕ
-numberOf done = 0
-numberOf (refused k) = k
+abbrev pub answerCode : Answer → ℕ
+answerCode done = 0
+answerCode (refused k) = k
 
 -- what a call answers and leaves: its number, and each row of words that was lent; a row that the call is not lent is empty
 pub record Rows : Type 0 where

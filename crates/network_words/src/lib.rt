@@ -20,7 +20,7 @@ ghost use Rattle.nights.specs.Tests.{verdict, optionTests};
 ghost use Rattle.network_options.specs.Options.{plainOptions};
 ghost use Rattle.network_send.specs.Sends.{plainLetter};
 ghost use Rattle.network_words.specs.Layout.{headWords, loaded, optionsFrom, unloaded};
-ghost use Rattle.network_words.specs.Calls.{numberOf, newRows, optionRows, sendRows, takeRows, countRows, listRows};
+ghost use Rattle.network_words.specs.Calls.{answerCode, newRows, optionRows, sendRows, takeRows, countRows, listRows};
 
 // The words of a head, and where it has each.
 pub const HEAD_WORDS: usize = 12;
@@ -146,7 +146,7 @@ pub fn store(head: Head, words: &mut [u64; HEAD_WORDS])
 
 // What options handed in as words answer.
 pub fn options_number(loss: u64, replay: u64, min: u64, mean: u64) -> u64
-    ensures { λ r. ⌜ ((flag : ℕ) → r ≡ numberOf (verdict (optionTests (optionsFrom loss replay min mean flag) []))) ⌝ }
+    ensures { λ r. ⌜ ((flag : ℕ) → r ≡ answerCode (verdict (optionTests (optionsFrom loss replay min mean flag) []))) ⌝ }
 {
     if !chance::good_word(loss) {
         return BAD_LOSS;

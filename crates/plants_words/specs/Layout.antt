@@ -35,8 +35,8 @@ abbrev pub stateSize : ℕ
 stateSize = rebootsAt + 1
 
 -- a core's answer: its size, the picks used, and an id or 0 for each of the most plants
-abbrev pub coreSize : ℕ
-coreSize = 2 + most
+abbrev pub coreRow : ℕ
+coreRow = 2 + most
 
 -- flags and their words
 abbrev pub flagOf : ℕ → Bool

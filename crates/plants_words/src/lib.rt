@@ -17,7 +17,7 @@ ghost use mathlib.Core.List.{[], _∷_, _++_};
 ghost use Prim.Native.Nat.{_+_, _≤_};
 ghost use lib.ListN.{length, take, drop};
 ghost use Rattle.basis.specs.Basis.{most};
-ghost use Rattle.plants_words.specs.Layout.{stableAt, crashesAt, stateSize, coreSize, flagsIn, flagWordsFit, ticksIn, plantsIn, stateWords, bits, shaped, faultIn, originIn};
+ghost use Rattle.plants_words.specs.Layout.{stableAt, crashesAt, stateSize, coreRow, flagsIn, flagWordsFit, ticksIn, plantsIn, stateWords, bits, shaped, faultIn, originIn};
 ghost use Rattle.plants_words.specs.Calls.{newAnswer, newWords, applyAnswer, applyWords, nonceWords, verdictAnswer, verdictWords, coreAnswer, coreWords, coreAnswered, coreTold};
 
 // Where the parts of a state begin, and how many words it has.
@@ -47,29 +47,26 @@ const UNKNOWN_SORT: u64 = 24;
 
 // ---- A state's words
 
-// A lent row of words. It does nothing: a row of a fixed size is seen to have that size where it is lent as one of any.
-fn seen(words: &[u64]) {}
-
 // The words lent for a state are 49.
 fn sized(words: &[u64; WORDS])
     ensures { λ _. ⌜ length (now (words .entry)) ≡ stateSize ⌝ }
 {
-    seen(words);
+    basis::seen(words);
 }
 
 // The one word of an answer.
 fn put_word(told: &mut [u64; 1], word: u64)
     ensures { λ _. ⌜ now (told .exit) ≡ word ∷ [] ⌝ }
 {
-    seen(told);
+    basis::seen(told);
     told[0] = word;
 }
 
 // The words lent for a core are 17.
 fn sized_core(told: &[u64; CORE_WORDS])
-    ensures { λ _. ⌜ length (now (told .entry)) ≡ coreSize ⌝ }
+    ensures { λ _. ⌜ length (now (told .entry)) ≡ coreRow ⌝ }
 {
-    seen(told);
+    basis::seen(told);
 }
 
 // The 15 flags from a word on.
@@ -299,7 +296,7 @@ pub fn verdict(words: &[u64; WORDS], sort: u64, id: u64, to: u64, told: &mut [u6
 
 // The answer of a core: its size, the picks used, and its 15 words.
 fn put_core(told: &mut [u64; CORE_WORDS], size: usize, used: usize, core: &[u64; MOST])
-    requires { ⌜ (length (now told) ≡ coreSize) × (length (now core) ≡ most) ⌝ }
+    requires { ⌜ (length (now told) ≡ coreRow) × (length (now core) ≡ most) ⌝ }
     ensures { λ _. ⌜ now (told .exit) ≡ coreTold size used (now (core .entry)) ⌝ }
 {
     told[0] = size as u64;

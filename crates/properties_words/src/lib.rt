@@ -11,14 +11,11 @@ ghost use Rattle.properties_words.specs.Told.{answerWords, answerNumber,
 // The words of an answer.
 pub const ANSWER_WORDS: usize = 4;
 
-// A lent row of words. It does nothing: a row of a fixed size is seen to have that size where it is lent as one of any.
-fn seen(words: &[u64]) {}
-
 // The words lent for an answer are four.
 fn sized(told: &[u64; ANSWER_WORDS])
     ensures { λ _. ⌜ length (now (told .entry)) ≡ answerWords ⌝ }
 {
-    seen(told);
+    basis::seen(told);
 }
 
 // What a call answers, written to its four words.

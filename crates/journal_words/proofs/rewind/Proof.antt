@@ -9,7 +9,7 @@ use Rattle.network_options.specs.Answers.{settledOf}
 use Rattle.journal_calls.specs.Calls.{answerOf}
 use Rattle.journal_calls.proofs.Journaled.{Met}
 use Rattle.network_words.specs.Layout.{headFits}
-use Rattle.journal_words.specs.Calls.{networkIn, journalAnswer, joined}
+use Rattle.journal_words.specs.Calls.{networkIn, journalAnswer, networkOf}
 use Rattle.network_words.proofs.Heads.{told-fits, head-read}
 use Rattle.journal_words.proofs.Told.{Kept, unread}
 use Rattle.journal_words.proofs.After.{Left, left, Written, wrote}
@@ -26,7 +26,7 @@ fits c = told-fits _ _ (c .before .before .load .ensures) true (not-false _ (c .
 -- ---- the journal's call was made on the network of the words
 
 read-is : (c : tie.After-read) → c .read .result ≡ whole (c .before .before .before .before .before .before .before)
-read-is c = c .read .ensures ∙ ap (λ (h : Head). joined h (c .before .before .before .before .before .before .before .args .records .now)) (head-read _ _ (c .before .before .before .before .load .ensures) (fits (c .before .before)))
+read-is c = c .read .ensures ∙ ap (λ (h : Head). networkOf h (c .before .before .before .before .before .before .before .args .records .now)) (head-read _ _ (c .before .before .before .before .load .ensures) (fits (c .before .before)))
 
 abbrev start : tie.After-rewind → tie.Start
 start c = c .before .before .before .before .before .before .before .before .before

@@ -10,7 +10,7 @@ use Rattle.network_send.specs.Sends.{sentOf, sending}
 use Rattle.network.specs.Forms.{plainOf}
 use Rattle.journal_calls.specs.Calls.{sends, answerOf, networkAfter, wordsAfter}
 use Rattle.network_words.specs.Layout.{headFits}
-use Rattle.journal_words.specs.Calls.{networkIn, journalAnswer, joined}
+use Rattle.journal_words.specs.Calls.{networkIn, journalAnswer, networkOf}
 use Rattle.network_words.proofs.Heads.{told-fits, head-read}
 use Rattle.journal_words.proofs.Told.{Kept, unread}
 use Rattle.network_words.proofs.Told.{sent-refused, sent-done, sent-told}
@@ -35,7 +35,7 @@ fits c = told-fits _ _ (c .before .before .load .ensures) true (not-false _ (c .
 -- ---- the journal's call was made on the network of the words
 
 read-is : (c : tie.After-read) → c .read .result ≡ whole (c .before .before .before .before .before .before .before .before .before)
-read-is c = c .read .ensures ∙ ap (λ (h : Head). joined h (c .before .before .before .before .before .before .before .before .before .args .records .now)) (head-read _ _ (c .before .before .before .before .load .ensures) (fits (c .before .before)))
+read-is c = c .read .ensures ∙ ap (λ (h : Head). networkOf h (c .before .before .before .before .before .before .before .before .before .args .records .now)) (head-read _ _ (c .before .before .before .before .load .ensures) (fits (c .before .before)))
 
 abbrev start : tie.After-send → tie.Start
 start c = c .before .before .before .before .before .before .before .before .before .before .before

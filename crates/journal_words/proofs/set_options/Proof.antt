@@ -20,7 +20,7 @@ use Rattle.network.proofs.Structs.{call-ill}
 use Rattle.journal_calls.specs.Calls.{chooses, answerOf}
 use Rattle.journal_calls.proofs.Journaled.{Met, refused-first}
 use Rattle.network_words.specs.Layout.{headFits, headWords, optionsFrom}
-use Rattle.journal_words.specs.Calls.{networkIn, journalAnswer, joined}
+use Rattle.journal_words.specs.Calls.{networkIn, journalAnswer, networkOf}
 use Rattle.network_words.proofs.Heads.{told-fits, head-read}
 use Rattle.journal_words.proofs.Told.{Kept, unread, read-kept}
 use Rattle.network_words.proofs.Told.{number-refused}
@@ -56,7 +56,7 @@ refuses c k e =
 
 -- what was tested is the network of the words
 tested : (c : tie.After-formed) → c .formed .result ≡ isFormed (whole (c .before .before .before .before .before .before .before))
-tested c = c .formed .ensures ∙ ap (λ (h : Head). isFormed (joined h (c .before .before .before .before .before .before .before .args .records .now))) (head-is (c .before .before))
+tested c = c .formed .ensures ∙ ap (λ (h : Head). isFormed (networkOf h (c .before .before .before .before .before .before .before .args .records .now))) (head-is (c .before .before))
 
 abbrev start : tie.Else2 → tie.Start
 start c = c .before .before .before .before .before .before .before .before
@@ -75,7 +75,7 @@ good c =
 -- ---- the journal's call was made on the network of the words, with the options of the words
 
 read-is : (c : tie.After-read) → c .read .result ≡ whole (start (c .before .before .before))
-read-is c = c .read .ensures ∙ ap (λ (h : Head). joined h (start (c .before .before .before) .args .records .now)) (head-is (c .before .before .before .before .before .before))
+read-is c = c .read .ensures ∙ ap (λ (h : Head). networkOf h (start (c .before .before .before) .args .records .now)) (head-is (c .before .before .before .before .before .before))
 
 asked-are : (c : tie.After-options-of) → plainOptions (c .options-of .result) ≡ asked (start (c .before .before .before .before))
 asked-are c = ap plainOptions (c .options-of .ensures) ∙ plain-back (asked (start (c .before .before .before .before))) (good (c .before .before))

@@ -7,7 +7,7 @@ use Rattle.chance.specs.Probability.{goodWord}
 use Rattle.nights.specs.Net.{Options}
 use Rattle.network_options.proofs.OptionForms.{loss-fails, replay-fails, delay-fails, all-pass}
 use Rattle.network_words.specs.Layout.{optionsFrom}
-use Rattle.network_words.specs.Calls.{numberOf}
+use Rattle.network_words.specs.Calls.{answerCode}
 use borrow.Author.Needs.{needs}
 use Rattle.network_words.proofs.options_number.Statement.{statement}
 use Rattle.network_words.proofs.options_number.Tie as tie
@@ -26,7 +26,7 @@ good-word-requires : tie.Need-good-word-requires
 good-word-requires c κs = search needs
 
 returns : tie.Need-returns
-returns c = λ flag. ap numberOf (loss-fails (asked (c .before .before) flag) (sym (c .before .good-word .ensures) ∙ not-true _ (c .if1 .taken)))
+returns c = λ flag. ap answerCode (loss-fails (asked (c .before .before) flag) (sym (c .before .good-word .ensures) ∙ not-true _ (c .if1 .taken)))
 
 good-word-requires-2 : tie.Need-good-word-requires-2
 good-word-requires-2 c κs = search needs
@@ -34,17 +34,17 @@ good-word-requires-2 c κs = search needs
 returns-2 : tie.Need-returns-2
 returns-2 c =
     let s = c .before .before .before .before in
-    λ flag. ap numberOf (replay-fails (asked s flag) (loss-good (c .before .before)) (sym (c .before .good-word2 .ensures) ∙ not-true _ (c .if2 .taken)))
+    λ flag. ap answerCode (replay-fails (asked s flag) (loss-good (c .before .before)) (sym (c .before .good-word2 .ensures) ∙ not-true _ (c .if2 .taken)))
 
 returns-3 : tie.Need-returns-3
 returns-3 c =
     let s = c .before .before .before .before .before in
-    λ flag. ap numberOf (delay-fails (asked s flag) (loss-good (c .before .before .before)) (replay-good (c .before)) (c .if3 .taken))
+    λ flag. ap answerCode (delay-fails (asked s flag) (loss-good (c .before .before .before)) (replay-good (c .before)) (c .if3 .taken))
 
 returns-4 : tie.Need-returns-4
 returns-4 c =
     let s = c .before .before .before .before .before in
-    λ flag. ap numberOf (all-pass (asked s flag) (loss-good (c .before .before .before)) (replay-good (c .before)) (c .if3 .left))
+    λ flag. ap answerCode (all-pass (asked s flag) (loss-good (c .before .before .before)) (replay-good (c .before)) (c .if3 .left))
 
 pub options-number-spec : {M : Type 1} → statement M
 options-number-spec =

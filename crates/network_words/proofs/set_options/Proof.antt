@@ -10,7 +10,7 @@ use Rattle.network_form.specs.Forms.{formedIn}
 use Rattle.network_form.specs.Calls.{answerIn}
 use Rattle.network_form.proofs.Calling.{call-ill}
 use Rattle.network_words.specs.Layout.{headFits, headIn, optionsFrom}
-use Rattle.network_words.specs.Calls.{numberOf, ifHead}
+use Rattle.network_words.specs.Calls.{answerCode, ifHead}
 use Rattle.network_words.proofs.Heads.{told-fits, head-read, a-head}
 use Rattle.network_words.proofs.Told.{Kept, Done, unread, kept-by, read-kept, finished}
 use Rattle.network_words.proofs.InPlace.{number-done, chosen-answer, chosen-head}
@@ -50,8 +50,8 @@ judged c =
     a-head (b .args .head .now) (inside b) (fits (c .before .before .before))
     ∙ chosen-answer (asked b) (b .args .head .now) (b .args .records .now) (formed c)
 
-numbered : (c : tie.After-options-number) → c .options-number .result ≡ numberOf (answer (start (c .before)))
-numbered c = c .options-number .ensures (start (c .before) .args .flag) ∙ ap numberOf (sym (judged (c .before)))
+numbered : (c : tie.After-options-number) → c .options-number .result ≡ answerCode (answer (start (c .before)))
+numbered c = c .options-number .ensures (start (c .before) .args .flag) ∙ ap answerCode (sym (judged (c .before)))
 
 passed : (c : tie.Else3) → verdict (optionTests (asked (start (c .before .before))) []) ≡ done
 passed c =
