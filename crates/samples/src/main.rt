@@ -3,7 +3,7 @@
 // that sees nothing is seen. compare/README.md says how it is made.
 use input::Input;
 ghost use mathlib.Core.Path.{_≡_};
-ghost use Prim.Native.Nat.{_+_, _≤_};
+ghost use Prim.Native.Nat.{_≤_, _<_};
 ghost use lib.ListN.{length};
 
 // Room for a list. The contract gives its length alone, which is all that lending it asks.
