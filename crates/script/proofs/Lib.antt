@@ -6,3 +6,4 @@ pub mod Most
 pub mod Reading
 pub mod Laws
 pub mod Stray
+pub mod FirstFault
