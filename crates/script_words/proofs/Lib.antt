@@ -1,3 +1,4 @@
 -- Laws that belong to no one function.
 pub mod Walk
 pub mod Cutting
+pub mod Lines
