@@ -2,3 +2,4 @@
 pub mod Walk
 pub mod Cutting
 pub mod Lines
+pub mod Runs
