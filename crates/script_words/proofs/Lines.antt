@@ -35,7 +35,7 @@ unfolding joined
 some-joined b [] = omega arith
 some-joined b (l ∷ ls) = omega arith
 
-some-line : (text : List ℕ) → 1 ≤ length (linesOf text)
+pub some-line : (text : List ℕ) → 1 ≤ length (linesOf text)
 unfolding linesOf
 some-line [] = omega arith
 some-line (b ∷ bs) = by-byte (eqb b 10)

@@ -1,11 +1,12 @@
 -- The words of a line are its bytes that are no white space, in their order, none lost and none made, and each word has a byte. White space is
 -- said here by its bytes once more, 9 to 13 and 32. Assumes nothing.
-use mathlib.Core.Bool.{Bool, true, false, cond, or-true}
+use mathlib.Core.Bool.{Bool, true, false, cond, _&&_, or-true, or-false}
 use mathlib.Core.List.{List, [], _∷_, _++_}
 use mathlib.Core.Path.{_≡_, refl, ap, _∙_}
 use Prim.Native.Nat.{ℕ, _≤_}
 use native.Mathlib.Omega.{arith}
-use borrow.Author.Tests.{le-leb, eq-eqb}
+use borrow.Author.Tests.{leb-true, le-leb, eq-eqb, ne-eqb}
+use lib.Dec.{leb}
 use Rattle.script_words.specs.Words.{isSpace, joined, begins, lineWords}
 
 -- a byte is no white space
@@ -32,6 +33,19 @@ mark b e = (
   λ h k. let f : true ≡ false = rw (le-leb 9 b h, le-leb b 13 k) at e in let z : _≡_ {A = ℕ} 0 1 = cc in omega arith,
   λ h. let f : true ≡ false = rw (eq-eqb b 32 h, or-true) at e in let z : _≡_ {A = ℕ} 0 1 = cc in omega arith,
 )
+
+mark-back : (b : ℕ) → Mark b → isSpace b ≡ false
+unfolding isSpace
+mark-back b m = rw (ne-eqb b 32 (m .1), or-false) (by-bound (leb 9 b) refl (leb b 13) refl)
+  where
+    by-bound : (p : Bool) → leb 9 b ≡ p → (q : Bool) → leb b 13 ≡ q → p && q ≡ false
+    by-bound true e true f = absurd (m .0 (leb-true 9 b e) (leb-true b 13 f))
+    by-bound true e false f = refl
+    by-bound false e q f = refl
+
+-- white space is exactly the bytes 9 to 13 and 32
+pub space-exactly : (b : ℕ) → (isSpace b ≡ false → Mark b) × (Mark b → isSpace b ≡ false)
+space-exactly b = (mark b, mark-back b)
 
 word-marks : (w : List ℕ) → IsWord w → Marks w
 unfolding IsWord Marks
