@@ -4,20 +4,23 @@
 use mathlib.Core.Bool.{Bool, true, false, cond}
 use mathlib.Core.List.{List, [], _∷_, _++_}
 use mathlib.Core.Logic.{_⊎_, inl, inr}
-use mathlib.Core.Path.{_≡_, refl, ap, _∙_}
-use Prim.Native.Nat.{ℕ, suc, _+_, _≤_}
+use mathlib.Core.Path.{_≡_, refl, sym, ap, _∙_}
+use Prim.Native.Nat.{ℕ, suc, _+_, _/_, _≤_, _<_}
 use native.Mathlib.Omega.{arith}
-use borrow.Author.Tests.{ltb-true, ltb-false, lt-ltb}
-use lib.Dec.{ltb}
-use lib.ListN.{length, length-append}
-use Rattle.script.specs.Scripts.{eventsOf, linesJudged}
+use borrow.Author.Tests.{ltb-true, ltb-false, lt-ltb, eqb-true, eqb-false}
+use lib.Dec.{ltb, eqb}
+use lib.ListN.{length, length-append, length-map}
+use Rattle.script_words.specs.Words.{linesOf}
+use Rattle.script.specs.Lines.{lineSays}
+use Rattle.script.specs.Scripts.{longest, strayLine, eventsOf, linesJudged, said, scriptAnswer}
 use Rattle.script.specs.declared.fault.Fault.{Fault}
 use Rattle.script.specs.declared.line.Line.{Line}
 use Rattle.script.specs.declared.line.Line.the-variants.{Blank, Event, Faulty}
 use Rattle.script.specs.declared.line.Refusal.{Refusal}
-use Rattle.script.specs.declared.line.Refusal.the-variants.{NoRoom}
+use Rattle.script.specs.declared.line.Refusal.the-variants.{TooLong, NotAscii, NoRoom}
 use Rattle.script.specs.declared.Script.the-variants.{Events, Refused}
 use Rattle.script.proofs.Judging.{accepted}
+use Rattle.script.proofs.Stray.{firstStray, stray-is-first}
 
 -- a line is an event
 abbrev pub IsEvent : Line → Type 0
@@ -96,6 +99,36 @@ first-fault room ls r k e =
     let s = stops room 1 0 ls r k (omega arith) e in
     let n : length ls ≡ length (s .before) + suc (length (s .after)) = ap length (s .split) ∙ length-append (s .before) (s .line ∷ s .after) in
     (s, omega (arith, s .place))
+
+-- ---- a whole text that is refused
+
+-- which refusal a text meets, and the line told: it is too long, at line 0; or it is not, and has a byte over 127, first at that line; or it has
+-- neither, and is refused at the first of its lines that stops
+pub data TextStops (text : List ℕ) (words : ℕ) : Refusal → ℕ → Type 0 where
+  long : longest < length text → TextStops text words TooLong 0
+  stray : length text ≤ longest → (firstStray 1 (linesOf text) ≡ 0 → ⊥) → TextStops text words NotAscii (firstStray 1 (linesOf text))
+  fault : {r : Refusal} {k : ℕ} → length text ≤ longest → firstStray 1 (linesOf text) ≡ 0 → Stops (words / 3) 1 0 (said text) r k
+      → k ≤ length (linesOf text) → TextStops text words r k
+
+pub text-stops : (text : List ℕ) (words : ℕ) (r : Refusal) (k : ℕ) → scriptAnswer text words ≡ Refused r k → TextStops text words r k
+unfolding scriptAnswer
+text-stops text words r k e = by-test (ltb longest (length text)) refl (eqb (strayLine text) 0) refl e
+  where
+    by-test : (p : Bool) → ltb longest (length text) ≡ p → (q : Bool) → eqb (strayLine text) 0 ≡ q
+        → cond p (Refused TooLong 0) (cond q (linesJudged (words / 3) 1 0 (said text)) (Refused NotAscii (strayLine text))) ≡ Refused r k
+        → TextStops text words r k
+    by-test true f q g h =
+        let a : TooLong ≡ r = cc in
+        let b : 0 ≡ k = cc in
+        rw (← a, ← b) (long (ltb-true longest (length text) f))
+    by-test false f true g h =
+        let s = first-fault (words / 3) (said text) r k h in
+        fault (ltb-false longest (length text) f) (sym (stray-is-first text) ∙ eqb-true (strayLine text) 0 g) (s .0)
+        (omega (arith, s .1, length-map (linesOf text) lineSays))
+    by-test false f false g h =
+        let a : NotAscii ≡ r = cc in
+        let b : firstStray 1 (linesOf text) ≡ k = cc (stray-is-first text) in
+        rw (← a, ← b) (stray (ltb-false longest (length text) f) (λ z. eqb-false (strayLine text) 0 g (stray-is-first text ∙ z)))
 
 -- ---- which lines are accepted
 
