@@ -3,3 +3,4 @@ pub mod Laying
 pub mod Lengths
 pub mod Listing
 pub mod Within
+pub mod Names
