@@ -2,7 +2,8 @@
 // expected, and what is counted; the crates of the families run the calls.
 //
 // A list is a row of numbers, seven bits a byte with the lowest first, the top bit set on all bytes of a number but its last. Each row of
-// words that calls are lent is kept twice: as the calls leave it, and as it is expected to be. All rows begin as zeros. A step is
+// words that calls write is kept twice: as the calls leave it, and as it is expected to be. One that they only read is kept once, among the
+// expected words, and a step has to give both sides the same. All rows begin as zeros. A step is
 //
 //   0 side row at count word..  so many words from a place of a row on: expected, and with side 1 lent too
 //   1 side row at count word    the same word so many times
@@ -160,6 +161,15 @@ pub fn lent(count: u64, row: &[u64]) -> usize
     ensures { λ r. ⌜ r ≤ length (now (row .entry)) ⌝ }
 {
     clamp(count, row.len())
+}
+
+// The front of a row that calls only read: so many of the expected words from a place on, and no more than there are.
+pub fn part<'a>(expected: &'a [u64], from: usize, count: u64) -> &'a [u64] {
+    if expected.len() < from {
+        return &expected[..0];
+    }
+    let end = from + clamp(count, expected.len() - from);
+    &expected[from..end]
 }
 
 // The row that a step is about.

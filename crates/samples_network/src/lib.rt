@@ -71,20 +71,47 @@ fn size_of(row: u64) -> usize
     }
 }
 
+// Whether a call is lent no more than its rows have.
+fn fits(n: [u64; samples_list::NUMBERS]) -> bool {
+    let drawn = DRAWN as u64;
+    let taken = TAKEN as u64;
+    let journaled = JOURNALED as u64;
+    match n[0] {
+        1 | 2 | 5 => true,
+        3 | 9 => (n[8] <= drawn) & (n[9] <= drawn) & (n[10] <= journaled),
+        4 => n[3] <= taken,
+        6 => n[2] <= taken,
+        7 => (n[2] <= SENT as u64) & (n[3] <= drawn) & (n[4] <= drawn) & (n[6] <= taken),
+        8 => n[2] <= journaled,
+        10 => (n[3] <= taken) & (n[4] <= journaled),
+        11 => n[7] <= journaled,
+        12 => n[3] <= journaled,
+        _ => false,
+    }
+}
+
+// Whether a step gives words to a row of these; calls only read rows 4, 5 and 6.
+fn is_given(step: Turn) -> bool {
+    match samples_list::row_of(step) {
+        2 | 3 | 7 | 8 | 9 | 10 | 11 => true,
+        4 | 5 | 6 => samples_list::is_lent(step),
+        _ => false,
+    }
+}
+
 // Whether a step is about these rows and calls.
 fn is_ours(step: Turn) -> bool {
     if !step.good {
         return false;
     }
     if step.sort == samples_list::CALL {
-        let which = step.numbers[0];
-        return (1 <= which) & (which <= 12);
+        let n = step.numbers;
+        return fits(n);
     }
     if samples_list::CALL < step.sort {
         return false;
     }
-    let row = samples_list::row_of(step);
-    (2 <= row) & (row <= 11)
+    is_given(step)
 }
 
 // ---- The calls of the network
@@ -93,12 +120,11 @@ fn send(
     n: [u64; samples_list::NUMBERS],
     head: &mut [u64; network_words::HEAD_WORDS],
     records: &mut [u64; network_queue::WORDS],
-    draws: &[u64],
-    extras: &[u64],
+    expected: &[u64],
     told: &mut [u64; 4],
 ) -> u64 {
-    let drawn = samples_list::lent(n[8], draws);
-    let added = samples_list::lent(n[9], extras);
+    let draws = samples_list::part(expected, DRAWS, n[8]);
+    let extras = samples_list::part(expected, EXTRAS, n[9]);
     bellmantle::bellmantle_network_send(
         head,
         records,
@@ -108,8 +134,8 @@ fn send(
         n[5],
         n[6],
         n[7],
-        &draws[..drawn],
-        &extras[..added],
+        draws,
+        extras,
         told,
     )
 }
@@ -140,22 +166,20 @@ fn tick(
     n: [u64; samples_list::NUMBERS],
     head: &mut [u64; network_words::HEAD_WORDS],
     records: &mut [u64; network_queue::WORDS],
-    draws: &[u64],
-    extras: &[u64],
-    sends: &[u64],
+    expected: &[u64],
     out: &mut [u64],
     told: &mut [u64; 3],
 ) -> u64 {
-    let sent = samples_list::lent(n[2], sends);
-    let drawn = samples_list::lent(n[3], draws);
-    let added = samples_list::lent(n[4], extras);
+    let sends = samples_list::part(expected, SENDS, n[2]);
+    let draws = samples_list::part(expected, DRAWS, n[3]);
+    let extras = samples_list::part(expected, EXTRAS, n[4]);
     let room = samples_list::lent(n[6], out);
     bellmantle::bellmantle_network_tick(
         head,
         records,
-        &sends[..sent],
-        &draws[..drawn],
-        &extras[..added],
+        sends,
+        draws,
+        extras,
         n[5],
         &mut out[..room],
         told,
@@ -166,9 +190,7 @@ fn network_call(
     n: [u64; samples_list::NUMBERS],
     head: &mut [u64; network_words::HEAD_WORDS],
     records: &mut [u64; network_queue::WORDS],
-    draws: &[u64],
-    extras: &[u64],
-    sends: &[u64],
+    expected: &[u64],
     out: &mut [u64],
     told_one: &mut [u64; 1],
     told_three: &mut [u64; 3],
@@ -185,11 +207,11 @@ fn network_call(
             n[5],
             n[6],
         ),
-        3 => send(n, head, records, draws, extras, told_four),
+        3 => send(n, head, records, expected, told_four),
         4 => take_due(n, head, records, out, told_one),
         5 => bellmantle::bellmantle_network_pending(head, records, told_one),
         6 => in_flight(n, head, records, out, told_one),
-        _ => tick(n, head, records, draws, extras, sends, out, told_three),
+        _ => tick(n, head, records, expected, out, told_three),
     }
 }
 
@@ -204,13 +226,12 @@ fn journaled_send(
     n: [u64; samples_list::NUMBERS],
     head: &mut [u64; network_words::HEAD_WORDS],
     records: &mut [u64; network_queue::WORDS],
-    draws: &[u64],
-    extras: &[u64],
+    expected: &[u64],
     journal: &mut [u64],
     told: &mut [u64; 4],
 ) -> u64 {
-    let drawn = samples_list::lent(n[8], draws);
-    let added = samples_list::lent(n[9], extras);
+    let draws = samples_list::part(expected, DRAWS, n[8]);
+    let extras = samples_list::part(expected, EXTRAS, n[9]);
     let room = samples_list::lent(n[10], journal);
     bellmantle::bellmantle_journal_send(
         head,
@@ -221,8 +242,8 @@ fn journaled_send(
         n[5],
         n[6],
         n[7],
-        &draws[..drawn],
-        &extras[..added],
+        draws,
+        extras,
         &mut journal[..room],
         told,
     )
@@ -281,8 +302,7 @@ fn journal_call(
     n: [u64; samples_list::NUMBERS],
     head: &mut [u64; network_words::HEAD_WORDS],
     records: &mut [u64; network_queue::WORDS],
-    draws: &[u64],
-    extras: &[u64],
+    expected: &[u64],
     out: &mut [u64],
     journal: &mut [u64],
     told_one: &mut [u64; 1],
@@ -290,7 +310,7 @@ fn journal_call(
 ) -> u64 {
     match n[0] {
         8 => mark(n, journal),
-        9 => journaled_send(n, head, records, draws, extras, journal, told_four),
+        9 => journaled_send(n, head, records, expected, journal, told_four),
         10 => journaled_take(n, head, records, out, journal, told_one),
         11 => journaled_options(n, head, records, journal),
         _ => rewind(n, head, records, journal),
@@ -302,9 +322,7 @@ fn run(
     n: [u64; samples_list::NUMBERS],
     head: &mut [u64; network_words::HEAD_WORDS],
     records: &mut [u64; network_queue::WORDS],
-    draws: &[u64],
-    extras: &[u64],
-    sends: &[u64],
+    expected: &[u64],
     out: &mut [u64],
     journal: &mut [u64],
     told_one: &mut [u64; 1],
@@ -316,9 +334,7 @@ fn run(
             n,
             head,
             records,
-            draws,
-            extras,
-            sends,
+            expected,
             out,
             told_one,
             told_three,
@@ -329,8 +345,7 @@ fn run(
         n,
         head,
         records,
-        draws,
-        extras,
+        expected,
         out,
         journal,
         told_one,
@@ -388,10 +403,10 @@ fn fate(lost: u64, replayed: u64) -> u64 {
 }
 
 // What a call that was accepted came to.
-fn outcome(which: u64, told_one: [u64; 1], told_four: [u64; 4]) -> u64 {
+fn outcome(which: u64, count: u64, lost: u64, replayed: u64) -> u64 {
     match which {
-        3 | 9 => fate(told_four[0], told_four[1]),
-        4 | 6 | 10 => is_some(told_one[0]),
+        3 | 9 => fate(lost, replayed),
+        4 | 6 | 10 => is_some(count),
         _ => 0,
     }
 }
@@ -401,25 +416,19 @@ fn call(
     n: [u64; samples_list::NUMBERS],
     head: &mut [u64; network_words::HEAD_WORDS],
     records: &mut [u64; network_queue::WORDS],
-    draws: &[u64],
-    extras: &[u64],
-    sends: &[u64],
+    expected: &[u64],
     out: &mut [u64],
     journal: &mut [u64],
     told_one: &mut [u64; 1],
     told_three: &mut [u64; 3],
     told_four: &mut [u64; 4],
-    expected: &[u64],
     counts: &mut [u64],
 ) {
-    let which = n[0];
     let answer = run(
         n,
         head,
         records,
-        draws,
-        extras,
-        sends,
+        expected,
         out,
         journal,
         told_one,
@@ -436,55 +445,42 @@ fn call(
         told_three,
         told_four,
     );
-    let came = outcome(which, *told_one, *told_four);
-    samples_list::met(
-        counts,
-        which,
-        kept & (answer == n[1]),
-        refusal_of(which, answer),
-        came,
-    );
+    let same = kept & (answer == n[1]);
+    let came = outcome(n[0], told_one[0], told_four[0], told_four[1]);
+    samples_list::met(counts, n[0], same, refusal_of(n[0], answer), came);
 }
 
 // ---- The steps
 
-// Puts a step's words into the row that is lent: one of the network, or what is lent to a call.
+// Does what a step says to the words that are expected. Answers where the list goes on, or 0.
+fn edited(list: &[u8], step: Turn, expected: &mut [u64]) -> usize
+    requires { ⌜ step .next ≤ length (now list) ⌝ }
+{
+    let row = samples_list::row_of(step);
+    samples_list::edit(list, step, expected, start_of(row), size_of(row))
+}
+
+// Puts a step's words into the row that is lent too.
 fn lend(
     step: Turn,
     expected: &[u64],
     head: &mut [u64],
     records: &mut [u64],
-    draws: &mut [u64],
-    extras: &mut [u64],
-    sends: &mut [u64],
-) {
-    let row = samples_list::row_of(step);
-    let span = samples_list::span_of(step, size_of(row));
-    let from = start_of(row) + span.at;
-    match row {
-        2 => samples_list::carry(expected, from, head, span.at, span.count),
-        3 => samples_list::carry(expected, from, records, span.at, span.count),
-        4 => samples_list::carry(expected, from, draws, span.at, span.count),
-        5 => samples_list::carry(expected, from, extras, span.at, span.count),
-        6 => samples_list::carry(expected, from, sends, span.at, span.count),
-        _ => {}
-    }
-}
-
-// The same of a row that calls write.
-fn lend_written(
-    step: Turn,
-    expected: &[u64],
     out: &mut [u64],
     journal: &mut [u64],
     told_one: &mut [u64],
     told_three: &mut [u64],
     told_four: &mut [u64],
 ) {
+    if !samples_list::is_lent(step) {
+        return;
+    }
     let row = samples_list::row_of(step);
     let span = samples_list::span_of(step, size_of(row));
     let from = start_of(row) + span.at;
     match row {
+        2 => samples_list::carry(expected, from, head, span.at, span.count),
+        3 => samples_list::carry(expected, from, records, span.at, span.count),
         7 => samples_list::carry(expected, from, out, span.at, span.count),
         8 => samples_list::carry(expected, from, journal, span.at, span.count),
         9 => samples_list::carry(expected, from, told_one, span.at, span.count),
@@ -498,17 +494,14 @@ fn lend_written(
 fn turned(
     list: &[u8],
     step: Turn,
+    expected: &mut [u64; ALL],
     head: &mut [u64; network_words::HEAD_WORDS],
     records: &mut [u64; network_queue::WORDS],
-    draws: &mut [u64; DRAWN],
-    extras: &mut [u64; DRAWN],
-    sends: &mut [u64; SENT],
     out: &mut [u64; TAKEN],
     journal: &mut [u64; JOURNALED],
     told_one: &mut [u64; 1],
     told_three: &mut [u64; 3],
     told_four: &mut [u64; 4],
-    expected: &mut [u64; ALL],
     counts: &mut [u64],
 ) -> usize
     requires { ⌜ step .next ≤ length (now list) ⌝ }
@@ -519,49 +512,41 @@ fn turned(
             n,
             head,
             records,
-            draws,
-            extras,
-            sends,
+            expected,
             out,
             journal,
             told_one,
             told_three,
             told_four,
-            expected,
             counts,
         );
         return step.next;
     }
-    let row = samples_list::row_of(step);
-    let next = samples_list::edit(list, step, expected, start_of(row), size_of(row));
-    if samples_list::is_lent(step) {
-        lend(step, expected, head, records, draws, extras, sends);
-        lend_written(
-            step,
-            expected,
-            out,
-            journal,
-            told_one,
-            told_three,
-            told_four,
-        );
-    }
+    let next = edited(list, step, expected);
+    lend(
+        step,
+        expected,
+        head,
+        records,
+        out,
+        journal,
+        told_one,
+        told_three,
+        told_four,
+    );
     next
 }
 
 // Replays a list from a place on, as long as its steps are about these rows and calls. Answers where it stopped.
 pub fn replay(list: &[u8], from: usize, counts: &mut [u64]) -> usize {
+    let mut expected = [0u64; ALL];
     let mut head = [0u64; network_words::HEAD_WORDS];
     let mut records = [0u64; network_queue::WORDS];
-    let mut draws = [0u64; DRAWN];
-    let mut extras = [0u64; DRAWN];
-    let mut sends = [0u64; SENT];
     let mut out = [0u64; TAKEN];
     let mut journal = [0u64; JOURNALED];
     let mut told_one = [0u64; 1];
     let mut told_three = [0u64; 3];
     let mut told_four = [0u64; 4];
-    let mut expected = [0u64; ALL];
     let mut at = from;
     let mut left = list.len();
     while 0 < left {
@@ -573,17 +558,14 @@ pub fn replay(list: &[u8], from: usize, counts: &mut [u64]) -> usize {
         let next = turned(
             list,
             step,
+            &mut expected,
             &mut head,
             &mut records,
-            &mut draws,
-            &mut extras,
-            &mut sends,
             &mut out,
             &mut journal,
             &mut told_one,
             &mut told_three,
             &mut told_four,
-            &mut expected,
             counts,
         );
         if next == 0 {

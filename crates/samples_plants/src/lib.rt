@@ -54,65 +54,75 @@ fn size_of(row: u64) -> usize
     }
 }
 
+// Whether a call is lent no more than its rows have.
+fn fits(n: [u64; samples_list::NUMBERS]) -> bool {
+    match n[0] {
+        13 | 15 => true,
+        14 => n[5] <= DRAWN as u64,
+        16 => (n[2] <= FLAGS as u64) & (n[3] <= PICKED as u64),
+        _ => false,
+    }
+}
+
+// Whether a step gives words to a row of these; calls write rows 9, 12 and 15.
+fn is_given(step: Turn) -> bool {
+    match samples_list::row_of(step) {
+        9 | 12 | 15 => true,
+        4 | 13 | 14 => samples_list::is_lent(step),
+        _ => false,
+    }
+}
+
 // Whether a step is about these rows and calls.
 fn is_ours(step: Turn) -> bool {
     if !step.good {
         return false;
     }
     if step.sort == samples_list::CALL {
-        let which = step.numbers[0];
-        return (13 <= which) & (which <= 16);
+        let n = step.numbers;
+        return fits(n);
     }
     if samples_list::CALL < step.sort {
         return false;
     }
-    0 < size_of(samples_list::row_of(step))
+    is_given(step)
 }
 
 // ---- The calls
 
 fn apply(
     n: [u64; samples_list::NUMBERS],
-    draws: &[u64],
+    expected: &[u64],
     told: &mut [u64; 1],
     plants: &mut [u64; plants_words::WORDS],
 ) -> u64 {
-    let drawn = samples_list::lent(n[5], draws);
-    bellmantle::bellmantle_plants_apply(plants, n[2], n[3], n[4], &draws[..drawn], told)
+    let draws = samples_list::part(expected, DRAWS, n[5]);
+    bellmantle::bellmantle_plants_apply(plants, n[2], n[3], n[4], draws, told)
 }
 
 fn choose_core(
     n: [u64; samples_list::NUMBERS],
+    expected: &[u64],
     plants: &mut [u64; plants_words::WORDS],
-    recovering: &[u64],
-    picks: &[u64],
     core: &mut [u64; plants_words::CORE_WORDS],
 ) -> u64 {
-    let flags = samples_list::lent(n[2], recovering);
-    let picked = samples_list::lent(n[3], picks);
-    bellmantle::bellmantle_plants_choose_core(
-        plants,
-        &recovering[..flags],
-        &picks[..picked],
-        n[4],
-        core,
-    )
+    let recovering = samples_list::part(expected, RECOVERING, n[2]);
+    let picks = samples_list::part(expected, PICKS, n[3]);
+    bellmantle::bellmantle_plants_choose_core(plants, recovering, picks, n[4], core)
 }
 
 fn run(
     n: [u64; samples_list::NUMBERS],
-    draws: &[u64],
+    expected: &[u64],
     told: &mut [u64; 1],
     plants: &mut [u64; plants_words::WORDS],
-    recovering: &[u64],
-    picks: &[u64],
     core: &mut [u64; plants_words::CORE_WORDS],
 ) -> u64 {
     match n[0] {
         13 => bellmantle::bellmantle_plants_new(n[2], plants),
-        14 => apply(n, draws, told, plants),
+        14 => apply(n, expected, told, plants),
         15 => bellmantle::bellmantle_plants_verdict(plants, n[2], n[3], n[4], told),
-        _ => choose_core(n, plants, recovering, picks, core),
+        _ => choose_core(n, expected, plants, core),
     }
 }
 
@@ -135,16 +145,13 @@ fn outcome(which: u64, told: u64, size: u64) -> u64 {
 // Runs a call and counts it.
 fn call(
     n: [u64; samples_list::NUMBERS],
-    draws: &[u64],
+    expected: &[u64],
     told: &mut [u64; 1],
     plants: &mut [u64; plants_words::WORDS],
-    recovering: &[u64],
-    picks: &[u64],
     core: &mut [u64; plants_words::CORE_WORDS],
-    expected: &[u64],
     counts: &mut [u64],
 ) {
-    let answer = run(n, draws, told, plants, recovering, picks, core);
+    let answer = run(n, expected, told, plants, core);
     let kept = is_kept(expected, told, plants, core);
     let same = kept & (answer == n[1]);
     let came = outcome(n[0], told[0], core[0]);
@@ -153,27 +160,27 @@ fn call(
 
 // ---- The steps
 
-// Puts a step's words into the row that is lent.
-fn lend(
-    step: Turn,
-    expected: &[u64],
-    draws: &mut [u64],
-    told: &mut [u64],
-    plants: &mut [u64],
-    recovering: &mut [u64],
-    picks: &mut [u64],
-    core: &mut [u64],
-) {
+// Does what a step says to the words that are expected. Answers where the list goes on, or 0.
+fn edited(list: &[u8], step: Turn, expected: &mut [u64]) -> usize
+    requires { ⌜ step .next ≤ length (now list) ⌝ }
+{
+    let row = samples_list::row_of(step);
+    samples_list::edit(list, step, expected, start_of(row), size_of(row))
+}
+
+// Puts a step's words into the row that is lent too.
+fn lend(step: Turn, expected: &[u64], told: &mut [u64], plants: &mut [u64], core: &mut [u64]) {
+    if !samples_list::is_lent(step) {
+        return;
+    }
     let row = samples_list::row_of(step);
     let span = samples_list::span_of(step, size_of(row));
     let from = start_of(row) + span.at;
     match row {
-        4 => samples_list::carry(expected, from, draws, span.at, span.count),
         9 => samples_list::carry(expected, from, told, span.at, span.count),
         12 => samples_list::carry(expected, from, plants, span.at, span.count),
-        13 => samples_list::carry(expected, from, recovering, span.at, span.count),
-        14 => samples_list::carry(expected, from, picks, span.at, span.count),
-        _ => samples_list::carry(expected, from, core, span.at, span.count),
+        15 => samples_list::carry(expected, from, core, span.at, span.count),
+        _ => {}
     }
 }
 
@@ -181,49 +188,30 @@ fn lend(
 fn turned(
     list: &[u8],
     step: Turn,
-    draws: &mut [u64; DRAWN],
+    expected: &mut [u64; ALL],
     told: &mut [u64; 1],
     plants: &mut [u64; plants_words::WORDS],
-    recovering: &mut [u64; FLAGS],
-    picks: &mut [u64; PICKED],
     core: &mut [u64; plants_words::CORE_WORDS],
-    expected: &mut [u64; ALL],
     counts: &mut [u64],
 ) -> usize
     requires { ⌜ step .next ≤ length (now list) ⌝ }
 {
     if step.sort == samples_list::CALL {
         let n = step.numbers;
-        call(
-            n,
-            draws,
-            told,
-            plants,
-            recovering,
-            picks,
-            core,
-            expected,
-            counts,
-        );
+        call(n, expected, told, plants, core, counts);
         return step.next;
     }
-    let row = samples_list::row_of(step);
-    let next = samples_list::edit(list, step, expected, start_of(row), size_of(row));
-    if samples_list::is_lent(step) {
-        lend(step, expected, draws, told, plants, recovering, picks, core);
-    }
+    let next = edited(list, step, expected);
+    lend(step, expected, told, plants, core);
     next
 }
 
 // Replays a list from a place on, as long as its steps are about these rows and calls. Answers where it stopped.
 pub fn replay(list: &[u8], from: usize, counts: &mut [u64]) -> usize {
-    let mut draws = [0u64; DRAWN];
+    let mut expected = [0u64; ALL];
     let mut told = [0u64; 1];
     let mut plants = [0u64; plants_words::WORDS];
-    let mut recovering = [0u64; FLAGS];
-    let mut picks = [0u64; PICKED];
     let mut core = [0u64; plants_words::CORE_WORDS];
-    let mut expected = [0u64; ALL];
     let mut at = from;
     let mut left = list.len();
     while 0 < left {
@@ -235,13 +223,10 @@ pub fn replay(list: &[u8], from: usize, counts: &mut [u64]) -> usize {
         let next = turned(
             list,
             step,
-            &mut draws,
+            &mut expected,
             &mut told,
             &mut plants,
-            &mut recovering,
-            &mut picks,
             &mut core,
-            &mut expected,
             counts,
         );
         if next == 0 {

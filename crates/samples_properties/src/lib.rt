@@ -58,19 +58,41 @@ fn size_of(row: u64) -> usize
     }
 }
 
+// Whether a call is lent no more than its rows have.
+fn fits(n: [u64; samples_list::NUMBERS]) -> bool {
+    let tracked = TRACKED as u64;
+    let clustered = (n[3] <= STANDING as u64) & (n[4] <= LOGGED as u64);
+    match n[0] {
+        17 => n[3] <= tracked,
+        18 => n[4] <= tracked,
+        19 => clustered & (n[5] <= tracked),
+        20 => clustered & (n[5] <= VALUED as u64) & (n[6] <= NAMED as u64) & (n[7] <= tracked),
+        _ => false,
+    }
+}
+
+// Whether a step gives words to a row of these; calls write rows 11 and 20, and the values are kept as signed numbers.
+fn is_given(step: Turn) -> bool {
+    match samples_list::row_of(step) {
+        11 | 20 => true,
+        16 | 17 | 18 | 19 => samples_list::is_lent(step),
+        _ => false,
+    }
+}
+
 // Whether a step is about these rows and calls.
 fn is_ours(step: Turn) -> bool {
     if !step.good {
         return false;
     }
     if step.sort == samples_list::CALL {
-        let which = step.numbers[0];
-        return (17 <= which) & (which <= 20);
+        let n = step.numbers;
+        return fits(n);
     }
     if samples_list::CALL < step.sort {
         return false;
     }
-    0 < size_of(samples_list::row_of(step))
+    is_given(step)
 }
 
 // ---- Values
@@ -126,62 +148,43 @@ fn reboot(n: [u64; samples_list::NUMBERS], tracker: &mut [u64]) -> u64 {
 
 fn tick(
     n: [u64; samples_list::NUMBERS],
+    expected: &[u64],
     told: &mut [u64; 4],
-    snapshot: &[u64],
-    logs: &[u64],
     tracker: &mut [u64],
 ) -> u64 {
-    let standing = samples_list::lent(n[3], snapshot);
-    let logged = samples_list::lent(n[4], logs);
     let room = samples_list::lent(n[5], tracker);
-    bellmantle::bellmantle_properties_tick(
-        n[2],
-        &snapshot[..standing],
-        &logs[..logged],
-        &mut tracker[..room],
-        told,
-    )
+    let snapshot = samples_list::part(expected, SNAPSHOT, n[3]);
+    let logs = samples_list::part(expected, LOGS, n[4]);
+    bellmantle::bellmantle_properties_tick(n[2], snapshot, logs, &mut tracker[..room], told)
 }
 
 fn end(
     n: [u64; samples_list::NUMBERS],
+    expected: &[u64],
     told: &mut [u64; 4],
-    snapshot: &[u64],
-    logs: &[u64],
     values: &[i64],
-    ids: &[u64],
     tracker: &[u64],
 ) -> u64 {
-    let standing = samples_list::lent(n[3], snapshot);
-    let logged = samples_list::lent(n[4], logs);
     let valued = lent_values(n[5], values);
-    let named = samples_list::lent(n[6], ids);
-    let tracked = samples_list::lent(n[7], tracker);
-    bellmantle::bellmantle_properties_end(
-        n[2],
-        &snapshot[..standing],
-        &logs[..logged],
-        &values[..valued],
-        &ids[..named],
-        &tracker[..tracked],
-        told,
-    )
+    let snapshot = samples_list::part(expected, SNAPSHOT, n[3]);
+    let logs = samples_list::part(expected, LOGS, n[4]);
+    let ids = samples_list::part(expected, IDS, n[6]);
+    let front = samples_list::part(tracker, 0, n[7]);
+    bellmantle::bellmantle_properties_end(n[2], snapshot, logs, &values[..valued], ids, front, told)
 }
 
 fn run(
     n: [u64; samples_list::NUMBERS],
+    expected: &[u64],
     told: &mut [u64; 4],
-    snapshot: &[u64],
-    logs: &[u64],
     values: &[i64],
-    ids: &[u64],
     tracker: &mut [u64],
 ) -> u64 {
     match n[0] {
         17 => fresh(n, tracker),
         18 => reboot(n, tracker),
-        19 => tick(n, told, snapshot, logs, tracker),
-        _ => end(n, told, snapshot, logs, values, ids, tracker),
+        19 => tick(n, expected, told, tracker),
+        _ => end(n, expected, told, values, tracker),
     }
 }
 
@@ -201,16 +204,13 @@ fn outcome(which: u64, told: u64) -> u64 {
 // Runs a call and counts it.
 fn call(
     n: [u64; samples_list::NUMBERS],
-    told: &mut [u64; 4],
-    snapshot: &[u64],
-    logs: &[u64],
-    values: &[i64],
-    ids: &[u64],
-    tracker: &mut [u64],
     expected: &[u64],
+    told: &mut [u64; 4],
+    values: &[i64],
+    tracker: &mut [u64],
     counts: &mut [u64],
 ) {
-    let answer = run(n, told, snapshot, logs, values, ids, tracker);
+    let answer = run(n, expected, told, values, tracker);
     let kept = is_kept(expected, told, tracker);
     let same = kept & (answer == n[1]);
     let came = outcome(n[0], told[0]);
@@ -219,27 +219,27 @@ fn call(
 
 // ---- The steps
 
-// Puts a step's words into the row that is lent.
-fn lend(
-    step: Turn,
-    expected: &[u64],
-    told: &mut [u64],
-    snapshot: &mut [u64],
-    logs: &mut [u64],
-    values: &mut [i64],
-    ids: &mut [u64],
-    tracker: &mut [u64],
-) {
+// Does what a step says to the words that are expected. Answers where the list goes on, or 0.
+fn edited(list: &[u8], step: Turn, expected: &mut [u64]) -> usize
+    requires { ⌜ step .next ≤ length (now list) ⌝ }
+{
+    let row = samples_list::row_of(step);
+    samples_list::edit(list, step, expected, start_of(row), size_of(row))
+}
+
+// Puts a step's words into the row that is lent too.
+fn lend(step: Turn, expected: &[u64], told: &mut [u64], values: &mut [i64], tracker: &mut [u64]) {
+    if !samples_list::is_lent(step) {
+        return;
+    }
     let row = samples_list::row_of(step);
     let span = samples_list::span_of(step, size_of(row));
     let from = start_of(row) + span.at;
     match row {
         11 => samples_list::carry(expected, from, told, span.at, span.count),
-        16 => samples_list::carry(expected, from, snapshot, span.at, span.count),
-        17 => samples_list::carry(expected, from, logs, span.at, span.count),
         18 => carry_values(expected, from, values, span.at, span.count),
-        19 => samples_list::carry(expected, from, ids, span.at, span.count),
-        _ => samples_list::carry(expected, from, tracker, span.at, span.count),
+        20 => samples_list::carry(expected, from, tracker, span.at, span.count),
+        _ => {}
     }
 }
 
@@ -247,49 +247,30 @@ fn lend(
 fn turned(
     list: &[u8],
     step: Turn,
-    told: &mut [u64; 4],
-    snapshot: &mut [u64; STANDING],
-    logs: &mut [u64; LOGGED],
-    values: &mut [i64; VALUED],
-    ids: &mut [u64; NAMED],
-    tracker: &mut [u64; TRACKED],
     expected: &mut [u64; ALL],
+    told: &mut [u64; 4],
+    values: &mut [i64; VALUED],
+    tracker: &mut [u64; TRACKED],
     counts: &mut [u64],
 ) -> usize
     requires { ⌜ step .next ≤ length (now list) ⌝ }
 {
     if step.sort == samples_list::CALL {
         let n = step.numbers;
-        call(
-            n,
-            told,
-            snapshot,
-            logs,
-            values,
-            ids,
-            tracker,
-            expected,
-            counts,
-        );
+        call(n, expected, told, values, tracker, counts);
         return step.next;
     }
-    let row = samples_list::row_of(step);
-    let next = samples_list::edit(list, step, expected, start_of(row), size_of(row));
-    if samples_list::is_lent(step) {
-        lend(step, expected, told, snapshot, logs, values, ids, tracker);
-    }
+    let next = edited(list, step, expected);
+    lend(step, expected, told, values, tracker);
     next
 }
 
 // Replays a list from a place on, as long as its steps are about these rows and calls. Answers where it stopped.
 pub fn replay(list: &[u8], from: usize, counts: &mut [u64]) -> usize {
-    let mut told = [0u64; 4];
-    let mut snapshot = [0u64; STANDING];
-    let mut logs = [0u64; LOGGED];
-    let mut values = [0i64; VALUED];
-    let mut ids = [0u64; NAMED];
-    let mut tracker = [0u64; TRACKED];
     let mut expected = [0u64; ALL];
+    let mut told = [0u64; 4];
+    let mut values = [0i64; VALUED];
+    let mut tracker = [0u64; TRACKED];
     let mut at = from;
     let mut left = list.len();
     while 0 < left {
@@ -301,13 +282,10 @@ pub fn replay(list: &[u8], from: usize, counts: &mut [u64]) -> usize {
         let next = turned(
             list,
             step,
-            &mut told,
-            &mut snapshot,
-            &mut logs,
-            &mut values,
-            &mut ids,
-            &mut tracker,
             &mut expected,
+            &mut told,
+            &mut values,
+            &mut tracker,
             counts,
         );
         if next == 0 {

@@ -30,13 +30,14 @@ fn size_of(row: u64) -> usize
     WORDS
 }
 
-// Whether a step is about these rows and this call.
+// Whether a step is about these rows and this call, which is lent no more than they have.
 fn is_ours(step: Turn) -> bool {
     if !step.good {
         return false;
     }
     if step.sort == samples_list::CALL {
-        return step.numbers[0] == 0;
+        let n = step.numbers;
+        return (n[0] == 0) & (n[2] <= BYTES as u64) & (n[3] <= WORDS as u64);
     }
     if samples_list::CALL < step.sort {
         return false;

@@ -9,10 +9,10 @@ use Rattle.samples_properties.proofs.replay.Statement.{statement}
 use Rattle.samples_properties.proofs.replay.Tie as tie
 
 abbrev Inv-loop : tie.InvT-loop
-Inv-loop list from counts₀ told₀ snapshot₀ logs₀ values₀ ids₀ tracker₀ expected₀ at₀ left₀ counts told snapshot logs values ids tracker expected at left = length counts ≡ length counts₀
+Inv-loop list from counts₀ expected₀ told₀ values₀ tracker₀ at₀ left₀ counts expected told values tracker at left = length counts ≡ length counts₀
 
 abbrev μ-loop : tie.MeasureT-loop
-μ-loop list from counts₀ told₀ snapshot₀ logs₀ values₀ ids₀ tracker₀ expected₀ at₀ left₀ counts told snapshot logs values ids tracker expected at left = left
+μ-loop list from counts₀ expected₀ told₀ values₀ tracker₀ at₀ left₀ counts expected told values tracker at left = left
 
 loop-holds : tie.Need-loop-holds Inv-loop μ-loop
 loop-holds c = search needs

@@ -14,35 +14,27 @@ array-read-lent c = search needs
 lent-requires : tie.Need-lent-requires
 lent-requires c κs = search needs
 
-array-read-lent-2 : tie.Need-array-read-lent-2
-array-read-lent-2 c = search needs
+array-read-part : tie.Need-array-read-part
+array-read-part c = search needs
 
-lent-requires-2 : tie.Need-lent-requires-2
-lent-requires-2 c κs = search needs
+part-requires : tie.Need-part-requires
+part-requires c κs = search needs
 
-array-read-lent-3 : tie.Need-array-read-lent-3
-array-read-lent-3 c = search needs
+array-read-part-2 : tie.Need-array-read-part-2
+array-read-part-2 c = search needs
 
-lent-requires-3 : tie.Need-lent-requires-3
-lent-requires-3 c κs = search needs
+part-requires-2 : tie.Need-part-requires-2
+part-requires-2 c κs = search needs
 
 array-read-bellmantle-properties-tick : tie.Need-array-read-bellmantle-properties-tick
 array-read-bellmantle-properties-tick c = search needs
-
-slice-aggregate-bellmantle-properties-tick : tie.Need-slice-aggregate-bellmantle-properties-tick
-slice-aggregate-bellmantle-properties-tick c = sym (length-take-le _ _ (omega arith))
-
-slice-aggregate-bellmantle-properties-tick-2 :
-    tie.Need-slice-aggregate-bellmantle-properties-tick-2
-slice-aggregate-bellmantle-properties-tick-2 c = sym (length-take-le _ _ (omega arith))
 
 slice-relend-prefix-bellmantle-properties-tick :
     tie.Need-slice-relend-prefix-bellmantle-properties-tick
 slice-relend-prefix-bellmantle-properties-tick c = search needs
 
-slice-aggregate-bellmantle-properties-tick-3 :
-    tie.Need-slice-aggregate-bellmantle-properties-tick-3
-slice-aggregate-bellmantle-properties-tick-3 c = sym (length-take-le _ _ (omega arith))
+slice-aggregate-bellmantle-properties-tick : tie.Need-slice-aggregate-bellmantle-properties-tick
+slice-aggregate-bellmantle-properties-tick c = sym (length-take-le _ _ (omega arith))
 
 bellmantle-properties-tick-requires : tie.Need-bellmantle-properties-tick-requires
 bellmantle-properties-tick-requires c κs = search needs
@@ -59,15 +51,13 @@ tick-spec =
     (tie.spec
     array-read-lent
     lent-requires
-    array-read-lent-2
-    lent-requires-2
-    array-read-lent-3
-    lent-requires-3
+    array-read-part
+    part-requires
+    array-read-part-2
+    part-requires-2
     array-read-bellmantle-properties-tick
-    slice-aggregate-bellmantle-properties-tick
-    slice-aggregate-bellmantle-properties-tick-2
     slice-relend-prefix-bellmantle-properties-tick
-    slice-aggregate-bellmantle-properties-tick-3
+    slice-aggregate-bellmantle-properties-tick
     bellmantle-properties-tick-requires
     same-length
     returns)
