@@ -7,6 +7,7 @@ use mathlib.Core.List.{List, [], _∷_, map}
 use lib.IntN.{negsuc}
 use lib.Ieee.{Float, fin, binary64, toBits}
 use lib.ListN.{take, replicate}
+use Rattle.numeral.specs.Bytes.{bytes}
 use Rattle.numeral.specs.Reading.{numberOf}
 use Rattle.numeral.specs.declared.Number.the-variants.{Value, Bad}
 use Rattle.chance.specs.Probability.{thresholdOf}
@@ -92,14 +93,10 @@ pub record Worked : Type 0 where
   pub four-of-four : neededCopies 4 4 ≡ 2
   pub two-of-five : neededCopies 5 2 ≡ 0
   -- ticks: `+007`, `1,500`, 18446744073709551615 and one more
-  pub plus-007 : numberOf (43 ∷ 48 ∷ 48 ∷ 55 ∷ []) ≡ Value 7
-  pub comma : numberOf (49 ∷ 44 ∷ 53 ∷ 48 ∷ 48 ∷ []) ≡ Bad
-  pub largest : numberOf
-      (49 ∷ 56 ∷ 52 ∷ 52 ∷ 54 ∷ 55 ∷ 52 ∷ 52 ∷ 48 ∷ 55 ∷ 51 ∷ 55 ∷ 48 ∷ 57 ∷ 53 ∷ 53 ∷ 49 ∷ 54 ∷ 49 ∷ 53 ∷ [])
-      ≡ Value 18446744073709551615
-  pub one-more : numberOf
-      (49 ∷ 56 ∷ 52 ∷ 52 ∷ 54 ∷ 55 ∷ 52 ∷ 52 ∷ 48 ∷ 55 ∷ 51 ∷ 55 ∷ 48 ∷ 57 ∷ 53 ∷ 53 ∷ 49 ∷ 54 ∷ 49 ∷ 54 ∷ [])
-      ≡ Bad
+  pub plus-007 : numberOf (bytes "+007") ≡ Value 7
+  pub comma : numberOf (bytes "1,500") ≡ Bad
+  pub largest : numberOf (bytes "18446744073709551615") ≡ Value 18446744073709551615
+  pub one-more : numberOf (bytes "18446744073709551616") ≡ Bad
   -- the run: the copy due 17 seq 1, the original due 12 seq 2, delayed 1
   pub draws-used : decided options 10 1 draws extras .draws ≡ 2
   pub extras-used : decided options 10 1 draws extras .extras ≡ 2
