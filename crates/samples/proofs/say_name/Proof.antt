@@ -1,10 +1,7 @@
 -- `samples::say_name` is safe and ends. Assumes nothing.
-use native.Mathlib.Omega.{arith}
 use borrow.Author.Needs.{needs}
-use mathlib.Core.Path.{_≡_, refl, sym}
-use Prim.Native.Nat.{ℕ, _+_, _-_, _*_, _≤_, _<_}
-use lib.ListN.{length, length-set}
-use lib.Seq.{length-take-le}
+use Prim.Native.Nat.{_-_, _≤_}
+use lib.ListN.{length}
 use Rattle.samples.proofs.say_name.Statement.{statement}
 use Rattle.samples.proofs.say_name.Tie as tie
 

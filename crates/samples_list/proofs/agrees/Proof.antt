@@ -1,9 +1,7 @@
 -- `samples_list::agrees` is safe and ends. Assumes nothing.
-use native.Mathlib.Omega.{arith}
 use borrow.Author.Needs.{needs}
-use mathlib.Core.Path.{_≡_, refl}
-use Prim.Native.Nat.{ℕ, _+_, _-_, _*_, _≤_, _<_}
-use lib.ListN.{length, length-set}
+use Prim.Native.Nat.{_-_, _≤_}
+use lib.ListN.{length}
 use Rattle.samples_list.proofs.agrees.Statement.{statement}
 use Rattle.samples_list.proofs.agrees.Tie as tie
 

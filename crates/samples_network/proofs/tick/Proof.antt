@@ -1,9 +1,7 @@
 -- `samples_network::tick` is safe and ends. Assumes nothing.
 use native.Mathlib.Omega.{arith}
 use borrow.Author.Needs.{needs}
-use mathlib.Core.Path.{_≡_, refl, sym}
-use Prim.Native.Nat.{ℕ, _+_, _-_, _*_, _≤_, _<_}
-use lib.ListN.{length, length-set}
+use mathlib.Core.Path.{sym}
 use lib.Seq.{length-take-le}
 use Rattle.samples_network.proofs.tick.Statement.{statement}
 use Rattle.samples_network.proofs.tick.Tie as tie

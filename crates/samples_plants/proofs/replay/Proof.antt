@@ -1,10 +1,7 @@
 -- `samples_plants::replay` is safe and ends. Assumes nothing.
-use native.Mathlib.Omega.{arith}
 use borrow.Author.Needs.{needs}
-use mathlib.Core.Path.{_≡_, refl, sym}
-use Prim.Native.Nat.{ℕ, _+_, _-_, _*_, _≤_, _<_}
-use lib.ListN.{length, length-set}
-use lib.Seq.{length-take-le}
+use mathlib.Core.Path.{_≡_}
+use lib.ListN.{length}
 use Rattle.samples_plants.proofs.replay.Statement.{statement}
 use Rattle.samples_plants.proofs.replay.Tie as tie
 

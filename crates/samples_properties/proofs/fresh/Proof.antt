@@ -1,9 +1,7 @@
 -- `samples_properties::fresh` is safe and ends. Assumes nothing.
 use native.Mathlib.Omega.{arith}
 use borrow.Author.Needs.{needs}
-use mathlib.Core.Path.{_≡_, refl, sym}
-use Prim.Native.Nat.{ℕ, _+_, _-_, _*_, _≤_, _<_}
-use lib.ListN.{length, length-set}
+use mathlib.Core.Path.{sym}
 use lib.Seq.{length-take-le}
 use Rattle.samples_properties.proofs.fresh.Statement.{statement}
 use Rattle.samples_properties.proofs.fresh.Tie as tie

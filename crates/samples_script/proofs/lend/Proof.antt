@@ -1,10 +1,5 @@
 -- `samples_script::lend` is safe and ends. Assumes nothing.
-use native.Mathlib.Omega.{arith}
 use borrow.Author.Needs.{needs}
-use mathlib.Core.Path.{_≡_, refl, sym}
-use Prim.Native.Nat.{ℕ, _+_, _-_, _*_, _≤_, _<_}
-use lib.ListN.{length, length-set}
-use lib.Seq.{length-take-le}
 use Rattle.samples_script.proofs.lend.Statement.{statement}
 use Rattle.samples_script.proofs.lend.Tie as tie
 
