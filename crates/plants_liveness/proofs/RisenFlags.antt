@@ -7,14 +7,14 @@ use native.Mathlib.Numerals.{add-one}
 use lib.ListN.{length, drop, getD, drop-of-length-le}
 use lib.Seq.{drop-cons}
 use Rattle.basis.specs.Basis.{bit}
-use Rattle.plants_liveness.specs.Choice.{risen}
+use Rattle.plants_liveness.specs.Choice.{newlySet}
 
 module _ (before after : List Bool) (i : ℕ) where
   pub risen-next : i < length before → i < length after
-      → risen (drop i before) (drop i after) ≡ bit (not (getD before i false) && getD after i false) + risen (drop (i + 1) before) (drop (i + 1) after)
-  unfolding risen
+      → newlySet (drop i before) (drop i after) ≡ bit (not (getD before i false) && getD after i false) + newlySet (drop (i + 1) before) (drop (i + 1) after)
+  unfolding newlySet
   risen-next h k = rw (add-one i, drop-cons before i false h, drop-cons after i false k)
 
-  pub risen-end : length before ≤ i → length after ≤ i → risen (drop i before) (drop i after) ≡ 0
-  unfolding risen
+  pub risen-end : length before ≤ i → length after ≤ i → newlySet (drop i before) (drop i after) ≡ 0
+  unfolding newlySet
   risen-end h k = rw (drop-of-length-le before h, drop-of-length-le after k)

@@ -29,11 +29,11 @@ abbrev pub isSet : List Bool → ℕ → Bool
 isSet flags id = getD flags id false
 
 -- how many flags are set that were not
-unfoldable pub risen : List Bool → List Bool → ℕ
-risen [] [] = 0
-risen [] (x ∷ xs) = 0
-risen (b ∷ bs) [] = 0
-risen (b ∷ bs) (x ∷ xs) = bit (not b && x) + risen bs xs
+unfoldable pub newlySet : List Bool → List Bool → ℕ
+newlySet [] [] = 0
+newlySet [] (x ∷ xs) = 0
+newlySet (b ∷ bs) [] = 0
+newlySet (b ∷ bs) (x ∷ xs) = bit (not b && x) + newlySet bs xs
 
 -- which plants are up after the choice
 abbrev pub upAfter : List ℕ → List Bool
@@ -47,8 +47,8 @@ settledBy s up =
       up = up;
       partitioned = replicate most false;
       «stable_until» = s .«stable_until»;
-      crashes = s .crashes + risen up (s .up);
-      restarts = s .restarts + risen (s .up) up;
+      crashes = s .crashes + newlySet up (s .up);
+      restarts = s .restarts + newlySet (s .up) up;
       reboots = s .reboots;
     }
 

@@ -13,7 +13,7 @@ ghost use lib.ListN.{length};
 ghost use Rattle.plants.specs.State.{limit};
 ghost use Rattle.basis.specs.Basis.{bit, quorum};
 ghost use Rattle.plants_lineup.specs.Core.{sizePicks, picksUsed, coreSize, picksInRange, idsFrom, those, tally, coreOf, recoveringFit, healthyCount};
-ghost use Rattle.plants_liveness.specs.Choice.{lentTested, inCore, upAfter, isSet, risen, settledBy, padded, chosen};
+ghost use Rattle.plants_liveness.specs.Choice.{lentTested, inCore, upAfter, isSet, newlySet, settledBy, padded, chosen};
 
 // A core of so many plants, chosen by so many picks, or why there is none.
 pub enum Choice {
@@ -167,7 +167,7 @@ fn rises(before: bool, after: bool) -> u64
 // How many flags are set that were not.
 fn risen(before: &[bool; 15], after: &[bool; 15]) -> u64
     requires { ⌜ (length (now before) ≡ 15) × (length (now after) ≡ 15) ⌝ }
-    ensures count { λ r. ⌜ r ≡ risen (now (before .entry)) (now (after .entry)) ⌝ }
+    ensures count { λ r. ⌜ r ≡ newlySet (now (before .entry)) (now (after .entry)) ⌝ }
     ensures few { λ r. ⌜ r ≤ 15 ⌝ }
 {
     let mut count: u64 = 0;

@@ -10,7 +10,7 @@ use Rattle.plants.specs.State.{tested, noneSet, countsFit}
 use Rattle.plants.specs.State as State
 use Rattle.plants_lineup.specs.Shuffle.{shuffledFrom, picksWithin}
 use Rattle.plants_lineup.specs.Core.{picksInRange, idsFrom, those, lineUp, insertedId, sortedIds, coreOf, recoveringFit, healthyCount}
-use Rattle.plants_liveness.specs.Choice.{member, inCore, risen, lentTested, choiceTested, chosen}
+use Rattle.plants_liveness.specs.Choice.{member, inCore, newlySet, lentTested, choiceTested, chosen}
 use Rattle.nights.specs.Record.{recordWords, recs}
 use Rattle.nights.specs.Net.{keep, every, earlier, insertBy, insertAll, dues, lostBy, replayedBy, delayedBy, copies, effect, goodOptions, goodRecord, ahead, rising, goodCounts, wellFormed}
 use Rattle.nights.specs.Draws.{isFaulted, extrasFor, extraAt, dueAt, isTick, isLate, alone, both, afterReplay, afterLoss, decided}
@@ -25,7 +25,7 @@ unfolding
     toBits ofBits goodWord isOne isZero thresholdOf byWord genBool genBoolInSend
     tested plantCount State.plantsFormed noneSet countsFit
     shuffledFrom picksWithin picksInRange idsFrom those lineUp insertedId sortedIds coreOf
-    member inCore risen recoveringFit healthyCount lentTested choiceTested chosen
+    member inCore newlySet recoveringFit healthyCount lentTested choiceTested chosen
     isFaulted extrasFor extraAt dueAt isTick isLate alone both afterReplay afterLoss decided
     keep every earlier insertBy insertAll dues lostBy replayedBy delayedBy copies effect goodOptions goodRecord ahead rising goodCounts wellFormed
     logged goodHeader recordWords recs undoWords undoAs undoOne checked further undoAll verdict tests ifDone doChange rewound doRewind doMark step run

@@ -5,14 +5,14 @@ use native.Mathlib.Omega.{arith}
 use mathlib.Core.Bool.{not, _&&_, false}
 use borrow.Author.Needs.{needs}
 use lib.ListN.{drop, getD}
-use Rattle.plants_liveness.specs.Choice.{risen}
+use Rattle.plants_liveness.specs.Choice.{newlySet}
 use Rattle.basis.proofs.Laws.{bit-le}
 use Rattle.plants_liveness.proofs.RisenFlags.{risen-next, risen-end}
 use Rattle.plants_liveness.proofs.risen.Statement.{statement}
 use Rattle.plants_liveness.proofs.risen.Tie as tie
 
 abbrev Inv-loop : tie.InvT-loop
-Inv-loop before after count₀ i₀ count i = (i ≤ 15) × (count ≤ i) × (risen before after ≡ count + risen (drop i before) (drop i after))
+Inv-loop before after count₀ i₀ count i = (i ≤ 15) × (count ≤ i) × (newlySet before after ≡ count + newlySet (drop i before) (drop i after))
 
 abbrev μ-loop : tie.MeasureT-loop
 μ-loop before after count₀ i₀ count i = 15 - i
