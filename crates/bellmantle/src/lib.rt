@@ -13,8 +13,8 @@ ghost use Rattle.network_form.specs.Forms.{plainIn};
 ghost use Rattle.network_form.specs.Calls.{written};
 ghost use Rattle.network_send.specs.Sends.{letterOf};
 ghost use Rattle.network_take.specs.Takes.{dueIn};
-ghost use Rattle.network_words.specs.Layout.{headIn, optionsFrom};
-ghost use Rattle.network_words.specs.Calls.{answerCode, sendTold, newRows, optionRows, sendRows, takeRows, countRows, listRows};
+ghost use Rattle.network_layout.specs.Layout.{headIn, optionsFrom, answerCode};
+ghost use Rattle.network_words.specs.Calls.{sendTold, newRows, optionRows, sendRows, takeRows, countRows, listRows};
 ghost use Rattle.network_batch.specs.Ticks.{ticked};
 ghost use Rattle.journal_calls.specs.Calls.{sends, takes, chooses, markAnswer, markWords};
 ghost use Rattle.journal_words.specs.Calls.{journalAnswer, journalHead, journalRecords, journalWords};
@@ -22,7 +22,7 @@ ghost use Rattle.plants_words.specs.Calls.{newAnswer, newWords, applyAnswer, ap
 ghost use Rattle.properties_tracker.specs.Calls.{freshAnswer, freshWords, rebootAnswer, rebootWords};
 ghost use Rattle.properties_tick.specs.Calls.{tickAnswer, tickWords};
 ghost use Rattle.properties_end.specs.Calls.{endAnswer};
-ghost use Rattle.properties_words.specs.Told.{answerNumber, answerTold};
+ghost use Rattle.properties_told.specs.Told.{answerNumber, answerTold};
 ghost use Rattle.script_packed.specs.Packing.{answerWord};
 
 // ---- Fault scripts
@@ -42,7 +42,7 @@ pub extern "C" fn bellmantle_parse_script(text: &[u8], events: &mut [u64]) -> u6
 // A fresh network of these options; the flag is no for 0 and yes otherwise.
 #[no_mangle]
 pub extern "C" fn bellmantle_network_new(
-    head: &mut [u64; network_words::HEAD_WORDS],
+    head: &mut [u64; network_layout::HEAD_WORDS],
     records: &mut [u64; network_queue::WORDS],
     loss: u64,
     replay: u64,
@@ -60,7 +60,7 @@ pub extern "C" fn bellmantle_network_new(
 // Replaces the options.
 #[no_mangle]
 pub extern "C" fn bellmantle_network_set_options(
-    head: &mut [u64; network_words::HEAD_WORDS],
+    head: &mut [u64; network_layout::HEAD_WORDS],
     records: &[u64; network_queue::WORDS],
     loss: u64,
     replay: u64,
@@ -77,7 +77,7 @@ pub extern "C" fn bellmantle_network_set_options(
 // Accepts a message sent at tick `now`: whether it was lost, whether it was replayed, and the draws and extras used are told.
 #[no_mangle]
 pub extern "C" fn bellmantle_network_send(
-    head: &mut [u64; network_words::HEAD_WORDS],
+    head: &mut [u64; network_layout::HEAD_WORDS],
     records: &mut [u64; network_queue::WORDS],
     now: u64,
     sort: u64,
@@ -112,7 +112,7 @@ pub extern "C" fn bellmantle_network_send(
 // Takes every message due at tick `now` to the front of the lent output: how many they are is told.
 #[no_mangle]
 pub extern "C" fn bellmantle_network_take_due(
-    head: &mut [u64; network_words::HEAD_WORDS],
+    head: &mut [u64; network_layout::HEAD_WORDS],
     records: &mut [u64; network_queue::WORDS],
     now: u64,
     out: &mut [u64],
@@ -130,7 +130,7 @@ pub extern "C" fn bellmantle_network_take_due(
 // How many messages are in flight is told.
 #[no_mangle]
 pub extern "C" fn bellmantle_network_pending(
-    head: &[u64; network_words::HEAD_WORDS],
+    head: &[u64; network_layout::HEAD_WORDS],
     records: &[u64; network_queue::WORDS],
     told: &mut [u64; 1],
 ) -> u64
@@ -143,7 +143,7 @@ pub extern "C" fn bellmantle_network_pending(
 // The messages in flight, in delivery order, at the front of the lent output: how many they are is told.
 #[no_mangle]
 pub extern "C" fn bellmantle_network_in_flight(
-    head: &[u64; network_words::HEAD_WORDS],
+    head: &[u64; network_layout::HEAD_WORDS],
     records: &[u64; network_queue::WORDS],
     out: &mut [u64],
     told: &mut [u64; 1],
@@ -160,7 +160,7 @@ pub extern "C" fn bellmantle_network_in_flight(
 // The sends of a tick and then a take at `now`: the draws and the extras used and the records taken are told.
 #[no_mangle]
 pub extern "C" fn bellmantle_network_tick(
-    head: &mut [u64; network_words::HEAD_WORDS],
+    head: &mut [u64; network_layout::HEAD_WORDS],
     records: &mut [u64; network_queue::WORDS],
     sends: &[u64],
     draws: &[u64],
@@ -197,7 +197,7 @@ pub extern "C" fn bellmantle_journal_mark(journal: &mut [u64]) -> u64
 // A journaled send.
 #[no_mangle]
 pub extern "C" fn bellmantle_journal_send(
-    head: &mut [u64; network_words::HEAD_WORDS],
+    head: &mut [u64; network_layout::HEAD_WORDS],
     records: &mut [u64; network_queue::WORDS],
     now: u64,
     sort: u64,
@@ -241,7 +241,7 @@ pub extern "C" fn bellmantle_journal_send(
 // A journaled take.
 #[no_mangle]
 pub extern "C" fn bellmantle_journal_take_due(
-    head: &mut [u64; network_words::HEAD_WORDS],
+    head: &mut [u64; network_layout::HEAD_WORDS],
     records: &mut [u64; network_queue::WORDS],
     now: u64,
     out: &mut [u64],
@@ -265,7 +265,7 @@ pub extern "C" fn bellmantle_journal_take_due(
 // A journaled change of the options.
 #[no_mangle]
 pub extern "C" fn bellmantle_journal_set_options(
-    head: &mut [u64; network_words::HEAD_WORDS],
+    head: &mut [u64; network_layout::HEAD_WORDS],
     records: &[u64; network_queue::WORDS],
     loss: u64,
     replay: u64,
@@ -284,7 +284,7 @@ pub extern "C" fn bellmantle_journal_set_options(
 // Goes back over the last k calls held.
 #[no_mangle]
 pub extern "C" fn bellmantle_journal_rewind(
-    head: &mut [u64; network_words::HEAD_WORDS],
+    head: &mut [u64; network_layout::HEAD_WORDS],
     records: &mut [u64; network_queue::WORDS],
     k: u64,
     journal: &mut [u64],
@@ -301,7 +301,7 @@ pub extern "C" fn bellmantle_journal_rewind(
 
 // Fresh plants.
 #[no_mangle]
-pub extern "C" fn bellmantle_plants_new(n: u64, words: &mut [u64; plants_words::WORDS]) -> u64
+pub extern "C" fn bellmantle_plants_new(n: u64, words: &mut [u64; plants_layout::WORDS]) -> u64
     ensures answer { λ r. ⌜ r ≡ newAnswer n ⌝ }
     ensures words { λ _. ⌜ now (words .exit) ≡ newWords n (now (words .entry)) ⌝ }
 {
@@ -311,7 +311,7 @@ pub extern "C" fn bellmantle_plants_new(n: u64, words: &mut [u64; plants_words::
 // Injects a fault at a tick; a reboot's nonce is told.
 #[no_mangle]
 pub extern "C" fn bellmantle_plants_apply(
-    words: &mut [u64; plants_words::WORDS],
+    words: &mut [u64; plants_layout::WORDS],
     tick: u64,
     fault: u64,
     id: u64,
@@ -328,7 +328,7 @@ pub extern "C" fn bellmantle_plants_apply(
 // What becomes of a message that is due at plant `to`: its verdict is told.
 #[no_mangle]
 pub extern "C" fn bellmantle_plants_verdict(
-    words: &[u64; plants_words::WORDS],
+    words: &[u64; plants_layout::WORDS],
     sort: u64,
     id: u64,
     to: u64,
@@ -343,7 +343,7 @@ pub extern "C" fn bellmantle_plants_verdict(
 // Chooses the core of plants that stays up; `full` is no for 0 and yes otherwise.
 #[no_mangle]
 pub extern "C" fn bellmantle_plants_choose_core(
-    words: &mut [u64; plants_words::WORDS],
+    words: &mut [u64; plants_layout::WORDS],
     recovering: &[u64],
     picks: &[u64],
     full: u64,
@@ -383,7 +383,7 @@ pub extern "C" fn bellmantle_properties_tick(
     plants: &[u64],
     logs: &[u64],
     tracker: &mut [u64],
-    told: &mut [u64; properties_words::ANSWER_WORDS],
+    told: &mut [u64; properties_told::ANSWER_WORDS],
 ) -> u64
     ensures answer { λ r. ⌜ r ≡ answerNumber (tickAnswer n (now (plants .entry)) (now (logs .entry)) (now (tracker .entry))) ⌝ }
     ensures tracker { λ _. ⌜ now (tracker .exit) ≡ tickWords n (now (plants .entry)) (now (logs .entry)) (now (tracker .entry)) ⌝ }
@@ -401,7 +401,7 @@ pub extern "C" fn bellmantle_properties_end(
     values: &[i64],
     core: &[u64],
     tracker: &[u64],
-    told: &mut [u64; properties_words::ANSWER_WORDS],
+    told: &mut [u64; properties_told::ANSWER_WORDS],
 ) -> u64
     ensures answer { λ r. ⌜ r ≡ answerNumber (endAnswer n (now (plants .entry)) (now (logs .entry)) (now (values .entry)) (now (core .entry)) (now (tracker .entry))) ⌝ }
     ensures told { λ _. ⌜ now (told .exit) ≡ answerTold (endAnswer n (now (plants .entry)) (now (logs .entry)) (now (values .entry)) (now (core .entry)) (now (tracker .entry))) (now (told .entry)) ⌝ }

@@ -13,7 +13,7 @@ use Rattle.network.specs.declared.Network.{Network}
 use Rattle.network.specs.Forms.{structOf, isFormed}
 use Rattle.network.proofs.Structs.{plain-formed, struct-formed}
 use Rattle.journal_calls.specs.Calls.{stateOf, stepOf, answerOf, wordsAfter, networkAfter}
-use Rattle.network_words.specs.Layout.{headFits, headWords}
+use Rattle.network_layout.specs.Layout.{headFits, headWords}
 use Rattle.journal_words.specs.Calls.{networkIn, journalAnswer, journalHead, journalRecords, journalWords}
 use Rattle.journal_words.proofs.Told.{Kept, Done, read-kept, read-finished}
 

@@ -6,9 +6,8 @@ use Prim.Native.Nat.{ℕ}
 use lib.ListN.{length, drop}
 use Rattle.nights.specs.Tests.{Answer, done, refused, ifDone}
 use Rattle.network_form.specs.Calls.{written}
-use Rattle.network_words.specs.Layout.{headFits}
-use Rattle.network_words.specs.Calls.{answerCode, ifHead}
-use Rattle.network_words.proofs.Heads.{no-head, a-head}
+use Rattle.network_layout.specs.Layout.{headFits, answerCode, ifHead}
+use Rattle.network_layout.proofs.Heads.{no-head, a-head}
 
 pub record Kept (a : Answer) (k : ℕ) : Type 0 where
   pub number : k ≡ answerCode a

@@ -7,8 +7,7 @@ use Rattle.nights.specs.Journal.{Call}
 use Rattle.network_form.specs.declared.Head.{Head}
 use Rattle.network.specs.declared.Network.{Network}
 use Rattle.journal_calls.specs.Calls.{answerOf, wordsAfter, networkAfter}
-use Rattle.network_words.specs.Layout.{headIn, headWords}
-use Rattle.network_words.specs.Calls.{ifHead}
+use Rattle.network_layout.specs.Layout.{headIn, headWords, ifHead}
 
 -- the network of a head and its records, and that of a head's words and records
 abbrev pub networkOf : Head → List ℕ → Network

@@ -3,13 +3,13 @@
 // written back, since a journaled call can still be refused once its network is known.
 use network::Network;
 use network_form::Head;
+use network_layout::HEAD_WORDS;
+use network_layout::ILL_FORMED;
 use network_options::NetworkOptions;
 use network_options::Settled;
 use network_queue::WORDS;
 use network_send::SendAnswer;
 use network_take::Counted;
-use network_words::HEAD_WORDS;
-use network_words::ILL_FORMED;
 ghost use mathlib.Core.Path.{_≡_};
 ghost use mathlib.Core.Bool.{true};
 ghost use mathlib.Core.List.{[], _∷_};
@@ -24,9 +24,9 @@ ghost use Rattle.network_options.specs.Answers.{settledOf};
 ghost use Rattle.network.specs.Forms.{plainOf, isFormed};
 ghost use Rattle.network_options.specs.Options.{structOptions};
 ghost use Rattle.network_form.specs.Calls.{written};
-ghost use Rattle.network_words.specs.Layout.{optionsFrom, headWords};
+ghost use Rattle.network_layout.specs.Layout.{optionsFrom, headWords, answerCode};
 ghost use Rattle.journal_words.specs.Calls.{networkOf, networkIn, journalAnswer, journalHead, journalRecords, journalWords};
-ghost use Rattle.network_words.specs.Calls.{answerCode, sendTold};
+ghost use Rattle.network_words.specs.Calls.{sendTold};
 ghost use Rattle.nights.specs.Tests.{ifDone};
 ghost use Rattle.journal_calls.specs.Calls.{sends, takes, chooses, markAnswer, markWords};
 
@@ -57,7 +57,7 @@ fn write(network: Network, head: &mut [u64; HEAD_WORDS], records: &mut [u64; WOR
     ensures head { λ _. ⌜ now (head .exit) ≡ headWords (network .head) ⌝ }
     ensures records { λ _. ⌜ now (records .exit) ≡ network .words ⌝ }
 {
-    network_words::store(network.head, head);
+    network_layout::store(network.head, head);
     let words = network.words;
     *records = words;
 }
@@ -97,7 +97,7 @@ pub fn send(
         ≡ ifDone (journalAnswer (sends now sort origin to kind handle (draws .entry .now) (extras .entry .now)) (head .entry .now) (records .entry .now) (journal .entry .now))
         (sendTold (decided (plainOf (networkIn (head .entry .now) (records .entry .now)) .options) now kind (draws .entry .now) (extras .entry .now))) (told .entry .now) ⌝ }
 {
-    let loaded = network_words::load(head);
+    let loaded = network_layout::load(head);
     if !loaded.fits {
         return ILL_FORMED;
     }
@@ -155,7 +155,7 @@ pub fn take_due(
         ≡ ifDone (journalAnswer (takes now (length (out .entry .now))) (head .entry .now) (records .entry .now) (journal .entry .now))
         (length (keep (isDue now) (plainOf (networkIn (head .entry .now) (records .entry .now)) .pending)) ∷ []) (told .entry .now) ⌝ }
 {
-    let loaded = network_words::load(head);
+    let loaded = network_layout::load(head);
     if !loaded.fits {
         return ILL_FORMED;
     }
@@ -201,7 +201,7 @@ pub fn set_options(
     ensures head { λ _. ⌜ now (head .exit) ≡ journalHead (chooses (optionsFrom loss replay min mean flag)) (now (head .entry)) (now (records .entry)) (now (journal .entry)) ⌝ }
     ensures journal { λ _. ⌜ now (journal .exit) ≡ journalWords (chooses (optionsFrom loss replay min mean flag)) (now (head .entry)) (now (records .entry)) (now (journal .entry)) ⌝ }
 {
-    let loaded = network_words::load(head);
+    let loaded = network_layout::load(head);
     if !loaded.fits {
         return ILL_FORMED;
     }
@@ -209,7 +209,7 @@ pub fn set_options(
     if !network_form::formed(records, loaded.head) {
         return ILL_FORMED;
     }
-    let number = network_words::options_number(loss, replay, min, mean);
+    let number = network_layout::options_number(loss, replay, min, mean);
     if number != 0 {
         return number;
     }
@@ -219,7 +219,7 @@ pub fn set_options(
     let answer = next.answer;
     let Settled::Refused(refusal) = answer else {
         let after = next.network;
-        network_words::store(after.head, head);
+        network_layout::store(after.head, head);
         return 0;
     };
     network_options::number_of(refusal)
@@ -237,7 +237,7 @@ pub fn rewind(
     ensures records { λ _. ⌜ now (records .exit) ≡ journalRecords (rewind k) (now (head .entry)) (now (records .entry)) (now (journal .entry)) ⌝ }
     ensures journal { λ _. ⌜ now (journal .exit) ≡ journalWords (rewind k) (now (head .entry)) (now (records .entry)) (now (journal .entry)) ⌝ }
 {
-    let loaded = network_words::load(head);
+    let loaded = network_layout::load(head);
     if !loaded.fits {
         return ILL_FORMED;
     }

@@ -12,9 +12,9 @@ use Rattle.network_form.specs.Forms.{formedIn}
 use Rattle.network_form.specs.Calls.{answerIn, headAfter, recordsAfter, formAnswer}
 use Rattle.network_form.proofs.Calling.{form-ill, form-well}
 use Rattle.network_take.specs.Takes.{dueIn, takeGives}
-use Rattle.network_words.specs.Layout.{headFits, headIn, headWords}
+use Rattle.network_layout.specs.Layout.{headFits, headIn, headWords}
 use Rattle.network_words.specs.Calls.{Rows}
-use Rattle.network_words.proofs.Heads.{no-head, a-head}
+use Rattle.network_layout.proofs.Heads.{no-head, a-head}
 use Rattle.network_batch.specs.Ticks.{messageWords, mostMessages, numberAt, Ran, all, stopped, sendsFrom, refusedAt, takingLast, afterSends, batchTested, ticked}
 
 module _ (h r sends draws extras : List ℕ) (now : ℕ) (out told : List ℕ) where

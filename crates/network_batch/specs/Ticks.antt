@@ -14,8 +14,8 @@ use Rattle.network_form.specs.declared.Head.{Head}
 use Rattle.network_form.specs.Calls.{answerIn, headAfter, recordsAfter, formAnswer}
 use Rattle.network_send.specs.Sends.{letterOf}
 use Rattle.network_take.specs.Takes.{dueIn}
-use Rattle.network_words.specs.Layout.{headIn, headWords}
-use Rattle.network_words.specs.Calls.{Rows, ifHead, inFront}
+use Rattle.network_layout.specs.Layout.{headIn, headWords, ifHead}
+use Rattle.network_words.specs.Calls.{Rows, inFront}
 use Rattle.network_batch.specs.declared.Run.{Run}
 
 -- the words of a message, and the most messages of a tick

@@ -2,13 +2,13 @@
 // calls is refused the whole is, with that call's number and place, and no lent word is changed; else it is the calls one after the
 // other. The records are worked on in a copy, and written back when all is done.
 use network_form::Head;
+use network_layout::HEAD_WORDS;
+use network_layout::ILL_FORMED;
 use network_options::number_of;
 use network_queue::WORDS;
 use network_send::Letter;
 use network_send::SendAnswer;
 use network_take::Counted;
-use network_words::HEAD_WORDS;
-use network_words::ILL_FORMED;
 ghost use mathlib.Core.Path.{_≡_};
 ghost use mathlib.Core.Bool.{true};
 ghost use Prim.Native.Nat.{_+_, _*_, _≤_};
@@ -137,7 +137,7 @@ pub fn tick(
     ensures told { λ _. ⌜ told .exit .now ≡ ticked (head .entry .now) (records .entry .now) (sends .entry .now)
         (draws .entry .now) (extras .entry .now) now (out .entry .now) (told .entry .now) .told ⌝ }
 {
-    let loaded = network_words::load(head);
+    let loaded = network_layout::load(head);
     if !loaded.fits {
         return at(ILL_FORMED, 0);
     }
@@ -162,7 +162,7 @@ pub fn tick(
     match answer {
         Counted::Refused(refusal) => at(number_of(refusal), count),
         Counted::Records(k) => {
-            network_words::store(taken.head, head);
+            network_layout::store(taken.head, head);
             *records = work;
             *told = [run.draws as u64, run.extras as u64, k as u64];
             0

@@ -19,8 +19,7 @@ use Rattle.network_form.specs.declared.Head.{Head}
 use Rattle.network_form.specs.Forms.{formedIn}
 use Rattle.network_form.specs.Calls.{answerIn, headAfter}
 use Rattle.network_form.proofs.Calling.{call-well, head-follows}
-use Rattle.network_words.specs.Layout.{headIn, headWords, optionWords}
-use Rattle.network_words.specs.Calls.{answerCode}
+use Rattle.network_layout.specs.Layout.{headIn, headWords, optionWords, answerCode}
 
 module _ (o : Options) where
   -- 0 answers good ones alone

@@ -16,9 +16,9 @@ use Rattle.network_send.proofs.Testing.{answer-of}
 use Rattle.network_take.specs.declared.Counted.{Counted}
 use Rattle.network_take.specs.declared.Counted.the-variants.{Records, Refused as Uncounted}
 use Rattle.network_take.specs.Takes.{Count, countedOf, counting}
-use Rattle.network_words.specs.Layout.{headFits}
-use Rattle.network_words.specs.Calls.{answerCode, Rows, byAnswer, ifHead, sendTold}
-use Rattle.network_words.proofs.Heads.{no-head, a-head}
+use Rattle.network_layout.specs.Layout.{headFits, answerCode, ifHead}
+use Rattle.network_words.specs.Calls.{Rows, byAnswer, sendTold}
+use Rattle.network_layout.proofs.Heads.{no-head, a-head}
 
 -- ---- the rows by the answer
 

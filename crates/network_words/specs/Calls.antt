@@ -1,23 +1,17 @@
 -- Each call over a network's words: the words in, the same call's definition, the words out. The answer's number is 0 where the call is
 -- done; a refusal leaves every word as it came. Words that are no head are 23. Assumes nothing.
 use Prim.Native.Nat.{ℕ}
-use mathlib.Core.Bool.{cond}
 use mathlib.Core.List.{List, [], _∷_, _++_}
 use lib.ListN.{length, drop, replicate}
 use Rattle.nights.specs.Record.{recordWords}
-use Rattle.nights.specs.Net.{Options, Letter, Change, send, collect, choose, lostBy, replayedBy}
+use Rattle.nights.specs.Net.{Options, Letter, send, collect, choose, lostBy, replayedBy}
 use Rattle.nights.specs.Draws.{Decided, decided}
 use Rattle.nights.specs.Tests.{Answer, done, refused, verdict, optionTests}
 use Rattle.network_queue.specs.Packed.{arraySize}
 use Rattle.network_form.specs.Forms.{plainIn}
 use Rattle.network_form.specs.Calls.{answerIn, headAfter, recordsAfter, formAnswer, listAnswer}
 use Rattle.network_take.specs.Takes.{dueIn}
-use Rattle.network_words.specs.Layout.{optionsIn, headFits, headIn, optionWords, headWords}
-
--- an answer as a number: 0 if it is done
-abbrev pub answerCode : Answer → ℕ
-answerCode done = 0
-answerCode (refused k) = k
+use Rattle.network_layout.specs.Layout.{headIn, optionWords, headWords, ifHead}
 
 -- what a call answers and leaves: its number, and each row of words that was lent; a row that the call is not lent is empty
 pub record Rows : Type 0 where
@@ -32,10 +26,6 @@ unfoldable pub byAnswer : Answer → (wrote came : Rows) → Rows
 byAnswer done wrote came = wrote
 byAnswer (refused k) wrote came =
     record { number = k; head = came .head; records = came .records; out = came .out; told = came .told }
-
--- an answer, if the words are a head
-unfoldable pub ifHead : List ℕ → Answer → Answer
-ifHead h a = cond (headFits h) a (refused 23)
 
 -- words at the front of a lent row
 abbrev pub inFront : (words out : List ℕ) → List ℕ

@@ -1,3 +1,2 @@
--- The definitions that the crate's contracts cite: a network's words, and each call over them.
-pub mod Layout
+-- The definitions that the crate's contracts cite.
 pub mod Calls

@@ -4,161 +4,17 @@
 // A network is two rows of words. Its head is 12: the bits of the loss and of the replay probability, minimum, mean, whether client
 // messages are faulted (0 or 1), pending, seq, sent, delivered, lost, replayed, delayed. Its records are 1,024: eight words for each
 // pending message, in the order of delivery, and zeros behind them.
-use network_form::Head;
-use network_options::NetworkOptions;
+use network_layout::HEAD_WORDS;
+use network_layout::ILL_FORMED;
 use network_options::number_of;
 use network_queue::WORDS;
 use network_send::Letter;
 use network_send::SendAnswer;
 use network_take::Counted;
 ghost use mathlib.Core.Path.{_≡_};
-ghost use mathlib.Core.Bool.{true};
-ghost use mathlib.Core.List.{[]};
-ghost use Prim.Native.Nat.{ℕ};
-ghost use Rattle.nights.specs.Net.{goodOptions};
-ghost use Rattle.nights.specs.Tests.{verdict, optionTests};
-ghost use Rattle.network_options.specs.Options.{plainOptions};
 ghost use Rattle.network_send.specs.Sends.{plainLetter};
-ghost use Rattle.network_words.specs.Layout.{headWords, loaded, optionsFrom, unloaded};
-ghost use Rattle.network_words.specs.Calls.{answerCode, newRows, optionRows, sendRows, takeRows, countRows, listRows};
-
-// The words of a head, and where it has each.
-pub const HEAD_WORDS: usize = 12;
-
-const LOSS: usize = 0;
-
-const REPLAY: usize = 1;
-
-const MIN: usize = 2;
-
-const MEAN: usize = 3;
-
-const FLAG: usize = 4;
-
-const PENDING: usize = 5;
-
-const SEQ: usize = 6;
-
-const SENT: usize = 7;
-
-const DELIVERED: usize = 8;
-
-const LOST: usize = 9;
-
-const REPLAYED: usize = 10;
-
-const DELAYED: usize = 11;
-
-// The numbers of the refusals that words alone can meet.
-const BAD_LOSS: u64 = 20;
-
-const BAD_REPLAY: u64 = 21;
-
-const MIN_OVER_MEAN: u64 = 22;
-
-pub const ILL_FORMED: u64 = 23;
-
-// A head that was read: words that are no good probability, or a flag that is neither 0 nor 1, are none.
-pub struct Loaded {
-    pub fits: bool,
-    pub head: Head,
-}
-
-// A head of zeros and the perfect options.
-fn no_head() -> Loaded
-    ensures { λ r. ⌜ r ≡ unloaded ⌝ }
-{
-    Loaded {
-        fits: false,
-        head: Head {
-            options: NetworkOptions::perfect(),
-            pending: 0,
-            seq: 0,
-            sent: 0,
-            delivered: 0,
-            lost: 0,
-            replayed: 0,
-            delayed: 0,
-        },
-    }
-}
-
-// The head of the words.
-pub fn load(words: &[u64; HEAD_WORDS]) -> Loaded
-    ensures { λ r. ⌜ r ≡ loaded (now (words .entry)) ⌝ }
-{
-    let loss = words[LOSS];
-    if !chance::good_word(loss) {
-        return no_head();
-    }
-    let replay = words[REPLAY];
-    if !chance::good_word(replay) {
-        return no_head();
-    }
-    let flag = words[FLAG];
-    if 1 < flag {
-        return no_head();
-    }
-    let options = NetworkOptions {
-        packet_loss_probability: chance::of_word(loss),
-        packet_replay_probability: chance::of_word(replay),
-        one_way_delay_min: words[MIN],
-        one_way_delay_mean: words[MEAN],
-        fault_client_messages: flag == 1,
-    };
-    let head = Head {
-        options: options,
-        pending: words[PENDING] as usize,
-        seq: words[SEQ],
-        sent: words[SENT],
-        delivered: words[DELIVERED],
-        lost: words[LOST],
-        replayed: words[REPLAYED],
-        delayed: words[DELAYED],
-    };
-    Loaded {
-        fits: true,
-        head: head,
-    }
-}
-
-// The words of a head of good options.
-pub fn store(head: Head, words: &mut [u64; HEAD_WORDS])
-    requires { ⌜ goodOptions (plainOptions (head .options)) ≡ true ⌝ }
-    ensures { λ _. ⌜ now (words .exit) ≡ headWords head ⌝ }
-{
-    let options = head.options;
-    *words = [
-        chance::word_of(options.packet_loss_probability),
-        chance::word_of(options.packet_replay_probability),
-        options.one_way_delay_min,
-        options.one_way_delay_mean,
-        basis::flag_word(options.fault_client_messages),
-        head.pending as u64,
-        head.seq,
-        head.sent,
-        head.delivered,
-        head.lost,
-        head.replayed,
-        head.delayed,
-    ];
-}
-
-// What options handed in as words answer.
-pub fn options_number(loss: u64, replay: u64, min: u64, mean: u64) -> u64
-    ensures { λ r. ⌜ ((flag : ℕ) → r ≡ answerCode (verdict (optionTests (optionsFrom loss replay min mean flag) []))) ⌝ }
-{
-    if !chance::good_word(loss) {
-        return BAD_LOSS;
-    }
-    if !chance::good_word(replay) {
-        return BAD_REPLAY;
-    }
-    if mean < min {
-        return MIN_OVER_MEAN;
-    }
-    0
-}
+ghost use Rattle.network_layout.specs.Layout.{loaded, optionsFrom};
+ghost use Rattle.network_words.specs.Calls.{newRows, optionRows, sendRows, takeRows, countRows, listRows};
 
 // A fresh network of these options; the flag is no for 0 and yes otherwise.
 pub fn new(
@@ -174,7 +30,7 @@ pub fn new(
     ensures head { λ _. ⌜ now (head .exit) ≡ newRows (now (head .entry)) (now (records .entry)) (optionsFrom loss replay min mean flag) .head ⌝ }
     ensures records { λ _. ⌜ now (records .exit) ≡ newRows (now (head .entry)) (now (records .entry)) (optionsFrom loss replay min mean flag) .records ⌝ }
 {
-    let number = options_number(loss, replay, min, mean);
+    let number = network_layout::options_number(loss, replay, min, mean);
     if number != 0 {
         return number;
     }
@@ -209,7 +65,7 @@ pub fn set_options(
     ensures answer { λ r. ⌜ r ≡ optionRows (now (head .entry)) (now (records .entry)) (optionsFrom loss replay min mean flag) .number ⌝ }
     ensures head { λ _. ⌜ now (head .exit) ≡ optionRows (now (head .entry)) (now (records .entry)) (optionsFrom loss replay min mean flag) .head ⌝ }
 {
-    let loaded = load(head);
+    let loaded = network_layout::load(head);
     if !loaded.fits {
         return ILL_FORMED;
     }
@@ -217,7 +73,7 @@ pub fn set_options(
     if !network_form::formed(records, loaded.head) {
         return ILL_FORMED;
     }
-    let number = options_number(loss, replay, min, mean);
+    let number = network_layout::options_number(loss, replay, min, mean);
     if number != 0 {
         return number;
     }
@@ -228,13 +84,13 @@ pub fn set_options(
         min,
         mean,
         basis::flag_word(flag != 0),
-        old[PENDING],
-        old[SEQ],
-        old[SENT],
-        old[DELIVERED],
-        old[LOST],
-        old[REPLAYED],
-        old[DELAYED],
+        old[network_layout::PENDING],
+        old[network_layout::SEQ],
+        old[network_layout::SENT],
+        old[network_layout::DELIVERED],
+        old[network_layout::LOST],
+        old[network_layout::REPLAYED],
+        old[network_layout::DELAYED],
     ];
     0
 }
@@ -257,7 +113,7 @@ pub fn send(
     ensures told { λ _. ⌜ now (told .exit) ≡ sendRows (now (head .entry)) (now (records .entry)) (plainLetter letter)
         (now (draws .entry)) (now (extras .entry)) (now (told .entry)) .told ⌝ }
 {
-    let loaded = load(head);
+    let loaded = network_layout::load(head);
     if !loaded.fits {
         return ILL_FORMED;
     }
@@ -272,7 +128,7 @@ pub fn send(
             draws: drawn,
             extras: added,
         } => {
-            store(sent.head, head);
+            network_layout::store(sent.head, head);
             *told = [
                 basis::flag_word(lost),
                 basis::flag_word(replayed),
@@ -298,7 +154,7 @@ pub fn take_due(
     ensures out { λ _. ⌜ now (out .exit) ≡ takeRows (now (head .entry)) (now (records .entry)) tick (now (out .entry)) (now (told .entry)) .out ⌝ }
     ensures told { λ _. ⌜ now (told .exit) ≡ takeRows (now (head .entry)) (now (records .entry)) tick (now (out .entry)) (now (told .entry)) .told ⌝ }
 {
-    let loaded = load(head);
+    let loaded = network_layout::load(head);
     if !loaded.fits {
         return ILL_FORMED;
     }
@@ -308,7 +164,7 @@ pub fn take_due(
     match answer {
         Counted::Refused(refusal) => number_of(refusal),
         Counted::Records(count) => {
-            store(taken.head, head);
+            network_layout::store(taken.head, head);
             *told = [count as u64];
             0
         }
@@ -326,7 +182,7 @@ pub fn in_flight(
     ensures out { λ _. ⌜ now (out .exit) ≡ listRows (now (head .entry)) (now (records .entry)) (now (out .entry)) (now (told .entry)) .out ⌝ }
     ensures told { λ _. ⌜ now (told .exit) ≡ listRows (now (head .entry)) (now (records .entry)) (now (out .entry)) (now (told .entry)) .told ⌝ }
 {
-    let loaded = load(head);
+    let loaded = network_layout::load(head);
     if !loaded.fits {
         return ILL_FORMED;
     }
@@ -346,7 +202,7 @@ pub fn pending(head: &[u64; HEAD_WORDS], records: &[u64; WORDS], told: &mut [u64
     ensures answer { λ r. ⌜ r ≡ countRows (now (head .entry)) (now (records .entry)) (now (told .entry)) .number ⌝ }
     ensures told { λ _. ⌜ now (told .exit) ≡ countRows (now (head .entry)) (now (records .entry)) (now (told .entry)) .told ⌝ }
 {
-    let loaded = load(head);
+    let loaded = network_layout::load(head);
     if !loaded.fits {
         return ILL_FORMED;
     }

@@ -1,7 +1,6 @@
 -- What each call answers and leaves, by where it ends: at an unknown number, at the words' shape, at a refusal, or done. Assumes nothing.
 use Prim.Native.Nat.{ℕ, _≤_, _<_}
 use mathlib.Core.Path.{_≡_, refl, sym, ap, _∙_}
-use mathlib.Core.Bool.{true, false}
 use mathlib.Core.List.{List, [], _∷_}
 use native.Mathlib.Omega.{arith}
 use mathlib.Core.Logic.{⊎-elim}
@@ -9,9 +8,7 @@ use types.Run.{OneOf}
 use denote.Enum.Declared.{tagOf}
 use Rattle.plants.proofs.Outcome as outcome
 use borrow.Author.Tests.{le-leb, lt-leb, ne-eqb}
-use lib.ListN.{getD}
 use Rattle.plants.specs.Refusals.{plantsRefusal}
-use Rattle.basis.specs.Basis.{plantCount}
 use Rattle.plants.specs.State.{newPlants}
 use Rattle.plants.specs.Verdicts.{verdictNumber, verdictGiven}
 use Rattle.plants.specs.declared.refusal.Refusal.{Refusal}
@@ -25,7 +22,7 @@ use Rattle.plants.specs.declared.Judged.the-variants.{Is, Refused as Unjudged}
 use Rattle.plants_liveness.specs.declared.Chosen.{Chosen}
 use Rattle.plants_liveness.specs.declared.Choice.{Choice}
 use Rattle.plants_liveness.specs.declared.Choice.the-variants.{Made, Refused as Unchosen}
-use Rattle.plants_words.specs.Layout.{plantsIn, stateWords, shaped, flagWordsFit, originIn}
+use Rattle.plants_layout.specs.Layout.{plantsIn, stateWords, shaped, originIn}
 use Rattle.plants_words.specs.Calls.{orElse, onZero, outcomeNumber, newAnswer, newWords, nextOf, applyAnswer, applyWords, drawn, nonceWords, judgedNumber, judgedWord, verdictAnswer, verdictWords, choiceNumber, coreTold, chosenOf, coreAnswer, coreWords, coreToldBy, coreAnswered}
 
 -- a refusal's number is not 0
@@ -56,25 +53,6 @@ first k more n = rw (ne-eqb k 0 n)
 pub second : (k more : ℕ) → k ≡ 0 → orElse k more ≡ more
 unfolding orElse
 second k more e = rw e
-
--- ---- the words themselves
-module _ (w : List ℕ) where
-  pub too-few : getD w 0 0 < 3 → shaped w ≡ 40
-  unfolding shaped plantCount
-  too-few h = rw (lt-leb 3 (getD w 0 0) h)
-
-  pub too-many : 15 < getD w 0 0 → shaped w ≡ 40
-  unfolding shaped plantCount
-  too-many h = rw (le-leb 3 (getD w 0 0) (omega arith), lt-leb (getD w 0 0) 15 h)
-
-  module _ (l : 3 ≤ getD w 0 0) (u : getD w 0 0 ≤ 15) where
-    pub whole-shape : flagWordsFit w ≡ true → shaped w ≡ 0
-    unfolding shaped plantCount
-    whole-shape e = rw (le-leb 3 (getD w 0 0) l, le-leb (getD w 0 0) 15 u, e)
-
-    pub bad-flag : flagWordsFit w ≡ false → shaped w ≡ 42
-    unfolding shaped plantCount
-    bad-flag e = rw (le-leb 3 (getD w 0 0) l, le-leb (getD w 0 0) 15 u, e)
 
 -- ---- fresh plants
 -- an outcome that is no refusal

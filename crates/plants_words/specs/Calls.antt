@@ -17,7 +17,7 @@ use Rattle.plants_liveness.specs.Choice.{chosen}
 use Rattle.plants_liveness.specs.declared.Chosen.{Chosen}
 use Rattle.plants_liveness.specs.declared.Choice.{Choice}
 use Rattle.plants_liveness.specs.declared.Choice.the-variants.{Made, Refused as Unchosen}
-use Rattle.plants_words.specs.Layout.{plantsIn, stateWords, shaped, faultIn, originIn}
+use Rattle.plants_layout.specs.Layout.{plantsIn, stateWords, shaped, faultIn, originIn}
 
 -- a number, and another where it is 0
 unfoldable pub orElse : ℕ → ℕ → ℕ

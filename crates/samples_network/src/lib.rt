@@ -6,7 +6,7 @@ ghost use lib.ListN.{length};
 // Where each row begins among the words that are expected: the list's rows 2 to 11, one behind the other.
 const HEAD: usize = 0;
 
-const RECORDS: usize = HEAD + network_words::HEAD_WORDS;
+const RECORDS: usize = HEAD + network_layout::HEAD_WORDS;
 
 const DRAWS: usize = RECORDS + network_queue::WORDS;
 
@@ -58,7 +58,7 @@ fn size_of(row: u64) -> usize
     ensures { λ r. ⌜ r ≤ 65536 ⌝ }
 {
     match row {
-        2 => network_words::HEAD_WORDS,
+        2 => network_layout::HEAD_WORDS,
         3 => network_queue::WORDS,
         4 | 5 => DRAWN,
         6 => SENT,
@@ -118,7 +118,7 @@ fn is_ours(step: Turn) -> bool {
 
 fn send(
     n: [u64; samples_list::NUMBERS],
-    head: &mut [u64; network_words::HEAD_WORDS],
+    head: &mut [u64; network_layout::HEAD_WORDS],
     records: &mut [u64; network_queue::WORDS],
     expected: &[u64],
     told: &mut [u64; 4],
@@ -142,7 +142,7 @@ fn send(
 
 fn take_due(
     n: [u64; samples_list::NUMBERS],
-    head: &mut [u64; network_words::HEAD_WORDS],
+    head: &mut [u64; network_layout::HEAD_WORDS],
     records: &mut [u64; network_queue::WORDS],
     out: &mut [u64],
     told: &mut [u64; 1],
@@ -153,7 +153,7 @@ fn take_due(
 
 fn in_flight(
     n: [u64; samples_list::NUMBERS],
-    head: &[u64; network_words::HEAD_WORDS],
+    head: &[u64; network_layout::HEAD_WORDS],
     records: &[u64; network_queue::WORDS],
     out: &mut [u64],
     told: &mut [u64; 1],
@@ -164,7 +164,7 @@ fn in_flight(
 
 fn tick(
     n: [u64; samples_list::NUMBERS],
-    head: &mut [u64; network_words::HEAD_WORDS],
+    head: &mut [u64; network_layout::HEAD_WORDS],
     records: &mut [u64; network_queue::WORDS],
     expected: &[u64],
     out: &mut [u64],
@@ -188,7 +188,7 @@ fn tick(
 
 fn network_call(
     n: [u64; samples_list::NUMBERS],
-    head: &mut [u64; network_words::HEAD_WORDS],
+    head: &mut [u64; network_layout::HEAD_WORDS],
     records: &mut [u64; network_queue::WORDS],
     expected: &[u64],
     out: &mut [u64],
@@ -224,7 +224,7 @@ fn mark(n: [u64; samples_list::NUMBERS], journal: &mut [u64]) -> u64 {
 
 fn journaled_send(
     n: [u64; samples_list::NUMBERS],
-    head: &mut [u64; network_words::HEAD_WORDS],
+    head: &mut [u64; network_layout::HEAD_WORDS],
     records: &mut [u64; network_queue::WORDS],
     expected: &[u64],
     journal: &mut [u64],
@@ -251,7 +251,7 @@ fn journaled_send(
 
 fn journaled_take(
     n: [u64; samples_list::NUMBERS],
-    head: &mut [u64; network_words::HEAD_WORDS],
+    head: &mut [u64; network_layout::HEAD_WORDS],
     records: &mut [u64; network_queue::WORDS],
     out: &mut [u64],
     journal: &mut [u64],
@@ -271,7 +271,7 @@ fn journaled_take(
 
 fn journaled_options(
     n: [u64; samples_list::NUMBERS],
-    head: &mut [u64; network_words::HEAD_WORDS],
+    head: &mut [u64; network_layout::HEAD_WORDS],
     records: &[u64; network_queue::WORDS],
     journal: &mut [u64],
 ) -> u64 {
@@ -290,7 +290,7 @@ fn journaled_options(
 
 fn rewind(
     n: [u64; samples_list::NUMBERS],
-    head: &mut [u64; network_words::HEAD_WORDS],
+    head: &mut [u64; network_layout::HEAD_WORDS],
     records: &mut [u64; network_queue::WORDS],
     journal: &mut [u64],
 ) -> u64 {
@@ -300,7 +300,7 @@ fn rewind(
 
 fn journal_call(
     n: [u64; samples_list::NUMBERS],
-    head: &mut [u64; network_words::HEAD_WORDS],
+    head: &mut [u64; network_layout::HEAD_WORDS],
     records: &mut [u64; network_queue::WORDS],
     expected: &[u64],
     out: &mut [u64],
@@ -320,7 +320,7 @@ fn journal_call(
 // Runs a call.
 fn run(
     n: [u64; samples_list::NUMBERS],
-    head: &mut [u64; network_words::HEAD_WORDS],
+    head: &mut [u64; network_layout::HEAD_WORDS],
     records: &mut [u64; network_queue::WORDS],
     expected: &[u64],
     out: &mut [u64],
@@ -414,7 +414,7 @@ fn outcome(which: u64, count: u64, lost: u64, replayed: u64) -> u64 {
 // Runs a call and counts it.
 fn call(
     n: [u64; samples_list::NUMBERS],
-    head: &mut [u64; network_words::HEAD_WORDS],
+    head: &mut [u64; network_layout::HEAD_WORDS],
     records: &mut [u64; network_queue::WORDS],
     expected: &[u64],
     out: &mut [u64],
@@ -495,7 +495,7 @@ fn turned(
     list: &[u8],
     step: Turn,
     expected: &mut [u64; ALL],
-    head: &mut [u64; network_words::HEAD_WORDS],
+    head: &mut [u64; network_layout::HEAD_WORDS],
     records: &mut [u64; network_queue::WORDS],
     out: &mut [u64; TAKEN],
     journal: &mut [u64; JOURNALED],
@@ -540,7 +540,7 @@ fn turned(
 // Replays a list from a place on, as long as its steps are about these rows and calls. Answers where it stopped.
 pub fn replay(list: &[u8], from: usize, counts: &mut [u64]) -> usize {
     let mut expected = [0u64; ALL];
-    let mut head = [0u64; network_words::HEAD_WORDS];
+    let mut head = [0u64; network_layout::HEAD_WORDS];
     let mut records = [0u64; network_queue::WORDS];
     let mut out = [0u64; TAKEN];
     let mut journal = [0u64; JOURNALED];

@@ -10,7 +10,7 @@ const TOLD: usize = DRAWS + DRAWN;
 
 const PLANTS: usize = TOLD + 1;
 
-const RECOVERING: usize = PLANTS + plants_words::WORDS;
+const RECOVERING: usize = PLANTS + plants_layout::WORDS;
 
 const PICKS: usize = RECOVERING + FLAGS;
 
@@ -46,7 +46,7 @@ fn size_of(row: u64) -> usize
     match row {
         4 => DRAWN,
         9 => 1,
-        12 => plants_words::WORDS,
+        12 => plants_layout::WORDS,
         13 => FLAGS,
         14 => PICKED,
         15 => plants_words::CORE_WORDS,
@@ -94,7 +94,7 @@ fn apply(
     n: [u64; samples_list::NUMBERS],
     expected: &[u64],
     told: &mut [u64; 1],
-    plants: &mut [u64; plants_words::WORDS],
+    plants: &mut [u64; plants_layout::WORDS],
 ) -> u64 {
     let draws = samples_list::part(expected, DRAWS, n[5]);
     bellmantle::bellmantle_plants_apply(plants, n[2], n[3], n[4], draws, told)
@@ -103,7 +103,7 @@ fn apply(
 fn choose_core(
     n: [u64; samples_list::NUMBERS],
     expected: &[u64],
-    plants: &mut [u64; plants_words::WORDS],
+    plants: &mut [u64; plants_layout::WORDS],
     core: &mut [u64; plants_words::CORE_WORDS],
 ) -> u64 {
     let recovering = samples_list::part(expected, RECOVERING, n[2]);
@@ -115,7 +115,7 @@ fn run(
     n: [u64; samples_list::NUMBERS],
     expected: &[u64],
     told: &mut [u64; 1],
-    plants: &mut [u64; plants_words::WORDS],
+    plants: &mut [u64; plants_layout::WORDS],
     core: &mut [u64; plants_words::CORE_WORDS],
 ) -> u64 {
     match n[0] {
@@ -147,7 +147,7 @@ fn call(
     n: [u64; samples_list::NUMBERS],
     expected: &[u64],
     told: &mut [u64; 1],
-    plants: &mut [u64; plants_words::WORDS],
+    plants: &mut [u64; plants_layout::WORDS],
     core: &mut [u64; plants_words::CORE_WORDS],
     counts: &mut [u64],
 ) {
@@ -190,7 +190,7 @@ fn turned(
     step: Turn,
     expected: &mut [u64; ALL],
     told: &mut [u64; 1],
-    plants: &mut [u64; plants_words::WORDS],
+    plants: &mut [u64; plants_layout::WORDS],
     core: &mut [u64; plants_words::CORE_WORDS],
     counts: &mut [u64],
 ) -> usize
@@ -210,7 +210,7 @@ fn turned(
 pub fn replay(list: &[u8], from: usize, counts: &mut [u64]) -> usize {
     let mut expected = [0u64; ALL];
     let mut told = [0u64; 1];
-    let mut plants = [0u64; plants_words::WORDS];
+    let mut plants = [0u64; plants_layout::WORDS];
     let mut core = [0u64; plants_words::CORE_WORDS];
     let mut at = from;
     let mut left = list.len();

@@ -1,6 +1,6 @@
 -- `journal_words::mark` meets its contract. Assumes nothing.
 use mathlib.Core.Path.{ap, _∙_}
-use Rattle.network_words.specs.Calls.{answerCode}
+use Rattle.network_layout.specs.Layout.{answerCode}
 use borrow.Author.Needs.{needs}
 use Rattle.journal_words.proofs.mark.Statement.{statement}
 use Rattle.journal_words.proofs.mark.Tie as tie

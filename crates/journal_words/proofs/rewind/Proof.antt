@@ -8,9 +8,9 @@ use Rattle.network.specs.declared.Network.{Network}
 use Rattle.network_options.specs.Answers.{settledOf}
 use Rattle.journal_calls.specs.Calls.{answerOf}
 use Rattle.journal_calls.proofs.Journaled.{Met}
-use Rattle.network_words.specs.Layout.{headFits}
+use Rattle.network_layout.specs.Layout.{headFits}
 use Rattle.journal_words.specs.Calls.{networkIn, journalAnswer, networkOf}
-use Rattle.network_words.proofs.Heads.{told-fits, head-read}
+use Rattle.network_layout.proofs.Heads.{told-fits, head-read}
 use Rattle.journal_words.proofs.Told.{Kept, unread}
 use Rattle.journal_words.proofs.After.{Left, left, Written, wrote}
 use borrow.Author.Needs.{needs}

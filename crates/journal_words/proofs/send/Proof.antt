@@ -9,9 +9,9 @@ use Rattle.network.specs.declared.Network.{Network}
 use Rattle.network_send.specs.Sends.{sentOf, sending}
 use Rattle.network.specs.Forms.{plainOf}
 use Rattle.journal_calls.specs.Calls.{sends, answerOf, networkAfter, wordsAfter}
-use Rattle.network_words.specs.Layout.{headFits}
+use Rattle.network_layout.specs.Layout.{headFits}
 use Rattle.journal_words.specs.Calls.{networkIn, journalAnswer, networkOf}
-use Rattle.network_words.proofs.Heads.{told-fits, head-read}
+use Rattle.network_layout.proofs.Heads.{told-fits, head-read}
 use Rattle.journal_words.proofs.Told.{Kept, unread}
 use Rattle.network_words.proofs.Told.{sent-refused, sent-done, sent-told}
 use Rattle.journal_words.proofs.After.{Left, left, Written, wrote}

@@ -19,9 +19,9 @@ use Rattle.network_options.proofs.OptionForms.{good-done}
 use Rattle.network.proofs.Structs.{call-ill}
 use Rattle.journal_calls.specs.Calls.{chooses, answerOf}
 use Rattle.journal_calls.proofs.Journaled.{Met, refused-first}
-use Rattle.network_words.specs.Layout.{headFits, headWords, optionsFrom}
+use Rattle.network_layout.specs.Layout.{headFits, headWords, optionsFrom}
 use Rattle.journal_words.specs.Calls.{networkIn, journalAnswer, networkOf}
-use Rattle.network_words.proofs.Heads.{told-fits, head-read}
+use Rattle.network_layout.proofs.Heads.{told-fits, head-read}
 use Rattle.journal_words.proofs.Told.{Kept, unread, read-kept}
 use Rattle.network_words.proofs.Told.{number-refused}
 use Rattle.network_words.proofs.InPlace.{number-done, plain-back, chosen-answer}

@@ -12,8 +12,8 @@ use Rattle.network_form.specs.declared.Head.{Head}
 use Rattle.network_form.specs.Forms.{formedIn}
 use Rattle.network_form.specs.Calls.{answerIn}
 use Rattle.network_form.proofs.Laws.{stays-good}
-use Rattle.network_words.specs.Layout.{headFits, headIn}
-use Rattle.network_words.proofs.Heads.{told-fits, head-read}
+use Rattle.network_layout.specs.Layout.{headFits, headIn}
+use Rattle.network_layout.proofs.Heads.{told-fits, head-read}
 use Rattle.network_words.proofs.Told.{taken-refused, taken-done, taken-told}
 use Rattle.network_batch.specs.Ticks.{messageWords, mostMessages, numberAt, all, sendsFrom, ranOf}
 use Rattle.network_batch.proofs.Using.{number-under}

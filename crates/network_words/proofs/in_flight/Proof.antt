@@ -8,9 +8,8 @@ use lib.ListN.{length}
 use Rattle.nights.specs.Tests.{Answer, done, ifDone}
 use Rattle.network_form.specs.Calls.{listAnswer}
 use Rattle.network_take.specs.Takes.{countedOf, listTells, listGives}
-use Rattle.network_words.specs.Layout.{headFits, headIn}
-use Rattle.network_words.specs.Calls.{ifHead}
-use Rattle.network_words.proofs.Heads.{told-fits, head-read}
+use Rattle.network_layout.specs.Layout.{headFits, headIn, ifHead}
+use Rattle.network_layout.proofs.Heads.{told-fits, head-read}
 use Rattle.network_words.proofs.Told.{Kept, Done, unread, read-kept, read-finished, taken-refused, taken-done, taken-told}
 use borrow.Author.Needs.{needs}
 use Rattle.network_words.proofs.in_flight.Statement.{statement}

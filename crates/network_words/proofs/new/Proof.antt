@@ -3,7 +3,7 @@ use mathlib.Core.Path.{sym, _∙_}
 use mathlib.Core.List.{[]}
 use Rattle.nights.specs.Net.{Options}
 use Rattle.nights.specs.Tests.{verdict, optionTests}
-use Rattle.network_words.specs.Layout.{optionsFrom}
+use Rattle.network_layout.specs.Layout.{optionsFrom}
 use Rattle.network_words.proofs.Told.{Kept, kept-by, Done, finished}
 use Rattle.network_words.proofs.InPlace.{number-done}
 use borrow.Author.Needs.{needs}

@@ -7,9 +7,8 @@ use borrow.Author.Tests.{not-true, not-false}
 use Rattle.nights.specs.Tests.{Answer, done}
 use Rattle.network_form.specs.Calls.{formAnswer}
 use Rattle.network_take.specs.Takes.{countedOf, countTells}
-use Rattle.network_words.specs.Layout.{headFits, headIn}
-use Rattle.network_words.specs.Calls.{ifHead}
-use Rattle.network_words.proofs.Heads.{told-fits, head-read}
+use Rattle.network_layout.specs.Layout.{headFits, headIn, ifHead}
+use Rattle.network_layout.proofs.Heads.{told-fits, head-read}
 use Rattle.network_words.proofs.Told.{Kept, Done, unread, read-kept, read-finished, taken-refused, taken-done, taken-told}
 use borrow.Author.Needs.{needs}
 use Rattle.network_words.proofs.pending.Statement.{statement}

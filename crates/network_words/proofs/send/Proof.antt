@@ -10,9 +10,8 @@ use Rattle.network_form.specs.Calls.{answerIn, headAfter, recordsAfter}
 use Rattle.network_form.proofs.Calling.{records-stay}
 use Rattle.network_form.proofs.Laws.{stays-good}
 use Rattle.network_send.specs.Sends.{plainLetter, sentOf, sendTells}
-use Rattle.network_words.specs.Layout.{headFits, headIn, headWords}
-use Rattle.network_words.specs.Calls.{ifHead}
-use Rattle.network_words.proofs.Heads.{told-fits, head-read}
+use Rattle.network_layout.specs.Layout.{headFits, headIn, headWords, ifHead}
+use Rattle.network_layout.proofs.Heads.{told-fits, head-read}
 use Rattle.network_words.proofs.Told.{Kept, Done, unread, read-kept, read-finished, sent-refused, sent-done, sent-told}
 use borrow.Author.Needs.{needs}
 use Rattle.network_words.proofs.send.Statement.{statement}

@@ -9,9 +9,8 @@ use Rattle.network_form.specs.declared.Head.{Head}
 use Rattle.network_form.specs.Forms.{formedIn}
 use Rattle.network_form.specs.Calls.{answerIn}
 use Rattle.network_form.proofs.Calling.{call-ill}
-use Rattle.network_words.specs.Layout.{headFits, headIn, optionsFrom}
-use Rattle.network_words.specs.Calls.{answerCode, ifHead}
-use Rattle.network_words.proofs.Heads.{told-fits, head-read, a-head}
+use Rattle.network_layout.specs.Layout.{headFits, headIn, optionsFrom, answerCode, ifHead}
+use Rattle.network_layout.proofs.Heads.{told-fits, head-read, a-head}
 use Rattle.network_words.proofs.Told.{Kept, Done, unread, kept-by, read-kept, finished}
 use Rattle.network_words.proofs.InPlace.{number-done, chosen-answer, chosen-head}
 use borrow.Author.Needs.{needs}

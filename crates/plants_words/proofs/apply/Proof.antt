@@ -4,7 +4,7 @@ use mathlib.Core.Path.{_≡_, sym, ap, _∙_}
 use Rattle.script.specs.declared.fault.Fault.{Fault}
 use Rattle.plants.specs.Faults.{applied}
 use Rattle.plants.specs.declared.Plants.{Plants}
-use Rattle.plants_words.specs.Layout.{plantsIn, shaped}
+use Rattle.plants_layout.specs.Layout.{plantsIn, shaped}
 use Rattle.plants_words.specs.Calls.{nextOf}
 use Rattle.plants_words.proofs.Answering.{unknown-fault, fault-misshapen, fault-refused, fault-nonce, fault-done}
 use borrow.Author.Needs.{needs}

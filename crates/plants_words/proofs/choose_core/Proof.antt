@@ -4,7 +4,7 @@ use mathlib.Core.Bool.{not}
 use lib.Dec.{eqb}
 use Rattle.plants.specs.declared.Plants.{Plants}
 use Rattle.plants_liveness.specs.Choice.{chosen}
-use Rattle.plants_words.specs.Layout.{shaped}
+use Rattle.plants_layout.specs.Layout.{shaped}
 use Rattle.plants_words.specs.Calls.{chosenOf}
 use Rattle.plants_words.proofs.Answering.{core-misshapen, core-refused, core-made}
 use borrow.Author.Needs.{needs}

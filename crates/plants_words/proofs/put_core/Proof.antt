@@ -4,7 +4,7 @@ use mathlib.Core.Path.{_≡_, refl, _∙_}
 use native.Mathlib.Omega.{arith}
 use lib.ListN.{length, set, length-set}
 use lib.Seq.{paste, paste-zero}
-use Rattle.plants_words.proofs.Writing.{one-more, all-written, two-and-more}
+use Rattle.plants_layout.proofs.Writing.{one-more, all-written, two-and-more}
 use Rattle.plants_words.proofs.put_core.Statement.{statement}
 use Rattle.plants_words.proofs.put_core.Tie as tie
 

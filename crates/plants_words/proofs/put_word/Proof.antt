@@ -1,6 +1,6 @@
 -- `plants_words::put_word` meets its contract. Assumes nothing.
 use native.Mathlib.Omega.{arith}
-use Rattle.plants_words.proofs.Writing.{only-word}
+use Rattle.plants_layout.proofs.Writing.{only-word}
 use borrow.Author.Needs.{needs}
 use Rattle.plants_words.proofs.put_word.Statement.{statement}
 use Rattle.plants_words.proofs.put_word.Tie as tie

@@ -5,7 +5,7 @@ use mathlib.Core.List.{[], _∷_}
 use Rattle.plants.specs.Verdicts.{verdictGiven}
 use Rattle.plants.specs.declared.Plants.{Plants}
 use Rattle.plants.specs.declared.Origin.{Origin}
-use Rattle.plants_words.specs.Layout.{plantsIn, shaped, originIn}
+use Rattle.plants_layout.specs.Layout.{plantsIn, shaped, originIn}
 use Rattle.plants_words.proofs.Answering.{unknown-sort, verdict-misshapen, verdict-refused, verdict-is}
 use borrow.Author.Needs.{needs}
 use Rattle.plants_words.proofs.verdict.Statement.{statement}

@@ -1,6 +1,6 @@
 -- `properties_words::fresh` meets its contract. Assumes nothing.
 use mathlib.Core.Path.{ap, _∙_}
-use Rattle.properties_words.specs.Told.{answerNumber}
+use Rattle.properties_told.specs.Told.{answerNumber}
 use borrow.Author.Needs.{needs}
 use Rattle.properties_words.proofs.fresh.Statement.{statement}
 use Rattle.properties_words.proofs.fresh.Tie as tie

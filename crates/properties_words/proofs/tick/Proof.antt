@@ -1,7 +1,7 @@
 -- `properties_words::tick` meets its contract. Assumes nothing.
 use mathlib.Core.Path.{ap, _∙_}
 use Rattle.properties_verdicts.specs.declared.Answer.{Answer}
-use Rattle.properties_words.specs.Told.{answerNumber, answerTold}
+use Rattle.properties_told.specs.Told.{answerNumber, answerTold}
 use borrow.Author.Needs.{needs}
 use Rattle.properties_words.proofs.tick.Statement.{statement}
 use Rattle.properties_words.proofs.tick.Tie as tie
