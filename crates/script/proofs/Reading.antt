@@ -70,7 +70,7 @@ more room found next (Faulty r) e = let z : _≡_ {A = ℕ} 0 1 = cc in absurd (
 -- up to a place `found` events stand at the front of the held words, and the lines from there on say the rest
 pub record Reading (room : ℕ) (text start held : List ℕ) (line found place : ℕ) : Type 0 where
   pub short : length text ≤ longest
-  pub long : heldWords ≤ length start
+  pub long : heldWords (length text) ≤ length start
   pub within : place ≤ length text + 1
   pub below : line ≤ place + 1
   pub some : found ≤ length (eventsOf (said text))
@@ -78,7 +78,7 @@ pub record Reading (room : ℕ) (text start held : List ℕ) (line found place :
   pub others : drop found (eventsOf (said text)) ≡ eventsOf (left text place)
   pub front : held ≡ written (eventsOf (said text)) start found
 
-pub starts : (room : ℕ) (text start : List ℕ) → length text ≤ longest → heldWords ≤ length start → Reading room text start start 1 0 0
+pub starts : (room : ℕ) (text start : List ℕ) → length text ≤ longest → heldWords (length text) ≤ length start → Reading room text start start 1 0 0
 unfolding eventWords
 starts room text start short long = record {
   short = short;
@@ -92,7 +92,7 @@ starts room text start short long = record {
 }
 
 -- the most events that a text can have fit the held words
-fits : (text start : List ℕ) → length text ≤ longest → heldWords ≤ length start → 3 * length (eventsOf (said text)) ≤ length start
+fits : (text start : List ℕ) → length text ≤ longest → heldWords (length text) ≤ length start → 3 * length (eventsOf (said text)) ≤ length start
 fits text start short long = omega (arith, at-most text)
 
 module _ {room : ℕ} {text start held : List ℕ} {line found place : ℕ} (r : Reading room text start held line found place) where

@@ -34,8 +34,15 @@ abbrev pub longest : ℕ
 longest = 65536
 
 -- three words for each event that so many bytes can hold: one for nine bytes, the last line's LF left out (proofs/Most)
-abbrev pub heldWords : ℕ
-heldWords = 3 * ((longest + 1) / 9)
+abbrev pub heldWords : ℕ → ℕ
+heldWords bytes = 3 * ((bytes + 1) / 9)
+
+-- texts of so many bytes are read with fewer words to clear
+abbrev pub shortText : ℕ
+shortText = 1024
+
+abbrev pub middleText : ℕ
+middleText = 8192
 
 -- the line of the first byte over 127, counted from n, or 0 where there is no such byte
 unfoldable pub strayFrom : ℕ → List ℕ → ℕ

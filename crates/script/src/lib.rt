@@ -12,7 +12,7 @@ ghost use lib.ListN.{length};
 ghost use Rattle.basis.specs.Basis.{laid};
 ghost use Rattle.order.specs.Order.{eventWords};
 ghost use Rattle.script.specs.Lines.{lineSays};
-ghost use Rattle.script.specs.Scripts.{scriptRefusal, longest, heldWords, strayLine, linesJudged, judgedLine, said, lineEvents, eventsOf, scriptAnswer, wordsGiven, scriptWords};
+ghost use Rattle.script.specs.Scripts.{scriptRefusal, longest, shortText, middleText, heldWords, strayLine, linesJudged, judgedLine, said, lineEvents, eventsOf, scriptAnswer, wordsGiven, scriptWords};
 
 // What a script says: how many events it has, or why it is refused and at which line.
 pub enum Script {
@@ -29,7 +29,17 @@ pub enum Judged {
 // The most bytes that a text may have.
 pub const LONGEST: usize = 65536;
 
-// Three words for each of the 7,281 events that so many bytes can hold: one for nine bytes, the last line's LF left out (proofs/Most).
+// A text of at most so many bytes is read with fewer words to clear.
+const SHORT: usize = 1024;
+
+const MIDDLE: usize = 8192;
+
+// Three words for each event that so many bytes can hold: one for nine bytes, the last line's LF left out (proofs/Most). Of the longest
+// text that is 7,281 events.
+const HELD_SHORT: usize = 3 * ((SHORT + 1) / 9);
+
+const HELD_MIDDLE: usize = 3 * ((MIDDLE + 1) / 9);
+
 const HELD: usize = 3 * ((LONGEST + 1) / 9);
 
 // A refusal's number.
@@ -124,7 +134,7 @@ fn put_event(events: &mut [u64], count: usize, tick: u64, fault: Fault) -> usize
 // Reads the lines. The events of a script that is accepted then stand at the front of the held
 // words, in file order.
 fn read_lines(text: &[u8], held: &mut [u64], room: usize) -> Script
-    requires { ⌜ (length (now text) ≤ longest) × (heldWords ≤ length (now held)) ⌝ }
+    requires { ⌜ (length (now text) ≤ longest) × (heldWords (length (now text)) ≤ length (now held)) ⌝ }
     ensures answer { λ r. ⌜ r ≡ linesJudged room 1 0 (said (now (text .entry))) ⌝ }
     ensures words { λ r. ⌜ ((n : ℕ) → r ≡ Script.Events n → now (held .exit) ≡ laid (now (held .entry)) 0 (eventWords (eventsOf (said (now (text .entry)))))) ⌝ }
 {
@@ -146,7 +156,7 @@ fn read_lines(text: &[u8], held: &mut [u64], room: usize) -> Script
 // The script of a text with no more bytes than may be and none over 127. Its events are held apart
 // until the last line was read, for a refusal leaves the lent words as they came.
 fn read_script(text: &[u8], events: &mut [u64], held: &mut [u64]) -> Script
-    requires { ⌜ (length (now text) ≤ longest) × (heldWords ≤ length (now held)) ⌝ }
+    requires { ⌜ (length (now text) ≤ longest) × (heldWords (length (now text)) ≤ length (now held)) ⌝ }
     ensures answer { λ r. ⌜ r ≡ linesJudged (length (now (events .entry)) / 3) 1 0 (said (now (text .entry))) ⌝ }
     ensures words { λ r. ⌜ now (events .exit) ≡ wordsGiven r (now (text .entry)) (now (events .entry)) ⌝ }
 {
@@ -158,6 +168,34 @@ fn read_script(text: &[u8], events: &mut [u64], held: &mut [u64]) -> Script
     order::copy_front(held, &mut events[..end]);
     order::sort(events, count, held);
     answer
+}
+
+// The same, with words of our own for the events of a text of some length.
+fn read_short(text: &[u8], events: &mut [u64]) -> Script
+    requires { ⌜ length (now text) ≤ shortText ⌝ }
+    ensures answer { λ r. ⌜ r ≡ linesJudged (length (now (events .entry)) / 3) 1 0 (said (now (text .entry))) ⌝ }
+    ensures words { λ r. ⌜ now (events .exit) ≡ wordsGiven r (now (text .entry)) (now (events .entry)) ⌝ }
+{
+    let mut held = [0u64; HELD_SHORT];
+    read_script(text, events, &mut held)
+}
+
+fn read_middle(text: &[u8], events: &mut [u64]) -> Script
+    requires { ⌜ length (now text) ≤ middleText ⌝ }
+    ensures answer { λ r. ⌜ r ≡ linesJudged (length (now (events .entry)) / 3) 1 0 (said (now (text .entry))) ⌝ }
+    ensures words { λ r. ⌜ now (events .exit) ≡ wordsGiven r (now (text .entry)) (now (events .entry)) ⌝ }
+{
+    let mut held = [0u64; HELD_MIDDLE];
+    read_script(text, events, &mut held)
+}
+
+fn read_long(text: &[u8], events: &mut [u64]) -> Script
+    requires { ⌜ length (now text) ≤ longest ⌝ }
+    ensures answer { λ r. ⌜ r ≡ linesJudged (length (now (events .entry)) / 3) 1 0 (said (now (text .entry))) ⌝ }
+    ensures words { λ r. ⌜ now (events .exit) ≡ wordsGiven r (now (text .entry)) (now (events .entry)) ⌝ }
+{
+    let mut held = [0u64; HELD];
+    read_script(text, events, &mut held)
 }
 
 // Reads a script with one `TICK FAULT` on a line, `#` starting a comment, into the lent words: three
@@ -173,6 +211,11 @@ pub fn parse_script(text: &[u8], events: &mut [u64]) -> Script
     if !ascii(text) {
         return Script::Refused(Refusal::NotAscii, stray_line(text));
     }
-    let mut held = [0u64; HELD];
-    read_script(text, events, &mut held)
+    if text.len() <= SHORT {
+        return read_short(text, events);
+    }
+    if text.len() <= MIDDLE {
+        return read_middle(text, events);
+    }
+    read_long(text, events)
 }

@@ -1,17 +1,17 @@
 -- `script::parse_script` meets its contract: the tests come in the definition's order. Assumes nothing.
 use borrow.Author.Tests.{lt-ltb, le-ltb}
-use native.Mathlib.Nat.{le-of-eq}
 use mathlib.Core.Bool.{Bool, true, false, not, false≢true}
 use mathlib.Core.List.{List}
 use mathlib.Core.Path.{_≡_, sym, ap, _∙_}
 use Prim.Native.Nat.{ℕ, _/_, _≤_, _<_}
 use lib.Dec.{eqb}
-use lib.ListN.{length, length-replicate}
-use Rattle.script.specs.Scripts.{longest, heldWords, strayLine, said, linesJudged, scriptAnswer, wordsGiven, scriptWords}
+use lib.ListN.{length}
+use Rattle.script.specs.Scripts.{longest, strayLine, said, linesJudged, scriptAnswer, wordsGiven, scriptWords}
 use Rattle.script.specs.declared.line.Refusal.{Refusal}
 use Rattle.script.specs.declared.line.Refusal.the-variants.{TooLong, NotAscii}
 use Rattle.script.specs.declared.Script.{Script}
 use Rattle.script.specs.declared.Script.the-variants.{Refused}
+use borrow.Author.Needs.{needs}
 use Rattle.script.proofs.parse_script.Statement.{statement}
 use Rattle.script.proofs.parse_script.Tie as tie
 
@@ -59,23 +59,50 @@ returns-2 c =
     let e = stray (a .text .now) (length (a .events .now)) (i .before .ascii .result) (i .before .before .if1 .left) (i .before .ascii .ensures) (i .if2 .taken) in
     refused (a .text .now) (a .events .now) NotAscii (c .stray-line .result) (e ∙ ap (Refused NotAscii) (sym (c .stray-line .ensures)))
 
-slice-aggregate-read-script : tie.Need-slice-aggregate-read-script
-slice-aggregate-read-script c = sym (length-replicate {A = ℕ} heldWords 0)
-
-read-script-requires : tie.Need-read-script-requires
-read-script-requires c κs = (c .before .before .before .before .if1 .left, le-of-eq (sym (length-replicate {A = ℕ} heldWords 0)))
+read-short-requires : tie.Need-read-short-requires
+read-short-requires c κs = search needs
 
 same-length : tie.Need-same-length
-same-length c = c .before .before .before .read-script .kept .1 .0
+same-length c = search needs
 
 returns-3 : tie.Need-returns-3
 returns-3 c =
-    let r = c .before .before .before in
-    let i = r .before .before .before in
-    let a = i .before .before .before .before .before .args in
-    answered (a .text .now) (a .events .now) (r .read-script .result) (linesJudged (length (a .events .now) / 3) 1 0 (said (a .text .now))) (r .read-script .last .1 .0)
-    (judges (a .text .now) (length (a .events .now)) (i .before .ascii .result) (i .before .before .if1 .left) (i .before .ascii .ensures) (i .if2 .left))
-    (r .read-script .ensures .0) (r .read-script .ensures .1)
+    let r = c .before .before in
+    let i = c .before .before .before .before .before .before in
+    let a = c .before .before .before .before .before .before .before .before .before .before .args in
+    answered (a .text .now) (a .events .now) (r .read-short .result) (linesJudged (length (a .events .now) / 3) 1 0 (said (a .text .now))) (r .read-short .last .1 .0)
+    (judges (a .text .now) (length (a .events .now)) (i .ascii .result) (i .before .if1 .left) (i .ascii .ensures) (c .before .before .before .before .before .if2 .left))
+    (r .read-short .ensures .0) (r .read-short .ensures .1)
+
+read-middle-requires : tie.Need-read-middle-requires
+read-middle-requires c κs = search needs
+
+same-length-2 : tie.Need-same-length-2
+same-length-2 c = search needs
+
+returns-4 : tie.Need-returns-4
+returns-4 c =
+    let r = c .before .before in
+    let i = c .before .before .before .before .before .before .before in
+    let a = c .before .before .before .before .before .before .before .before .before .before .before .args in
+    answered (a .text .now) (a .events .now) (r .read-middle .result) (linesJudged (length (a .events .now) / 3) 1 0 (said (a .text .now))) (r .read-middle .last .1 .0)
+    (judges (a .text .now) (length (a .events .now)) (i .ascii .result) (i .before .if1 .left) (i .ascii .ensures) (c .before .before .before .before .before .before .if2 .left))
+    (r .read-middle .ensures .0) (r .read-middle .ensures .1)
+
+read-long-requires : tie.Need-read-long-requires
+read-long-requires c κs = search needs
+
+same-length-3 : tie.Need-same-length-3
+same-length-3 c = search needs
+
+returns-5 : tie.Need-returns-5
+returns-5 c =
+    let r = c .before .before in
+    let i = c .before .before .before .before .before .before .before in
+    let a = c .before .before .before .before .before .before .before .before .before .before .before .args in
+    answered (a .text .now) (a .events .now) (r .read-long .result) (linesJudged (length (a .events .now) / 3) 1 0 (said (a .text .now))) (r .read-long .last .1 .0)
+    (judges (a .text .now) (length (a .events .now)) (i .ascii .result) (i .before .if1 .left) (i .ascii .ensures) (c .before .before .before .before .before .before .if2 .left))
+    (r .read-long .ensures .0) (r .read-long .ensures .1)
 
 pub parse-script-spec : {M : Type 1} → statement M
 parse-script-spec =
@@ -85,7 +112,12 @@ parse-script-spec =
     ascii-requires
     stray-line-requires
     returns-2
-    slice-aggregate-read-script
-    read-script-requires
+    read-short-requires
     same-length
-    returns-3)
+    returns-3
+    read-middle-requires
+    same-length-2
+    returns-4
+    read-long-requires
+    same-length-3
+    returns-5)

@@ -20,14 +20,15 @@ use Rattle.script.proofs.read_script.Tie as tie
 record Counted (text words : List ℕ) (n : ℕ) : Type 0 where
   all : n ≡ length (eventsOf (said text))
   fits : 3 * n ≤ length words
-  most : 3 * n ≤ heldWords
+  most : 3 * n ≤ heldWords (length text)
+  short : length text ≤ longest
 
 counted : (text words : List ℕ) (n : ℕ) (r : Script) → length text ≤ longest → r ≡ linesJudged (length words / 3) 1 0 (said text) → r ≡ Events n → Counted text words n
 counted text words n r short e q =
     let a = accepted (length words / 3) 1 0 n (said text) (sym e ∙ q) in
     let h = a .1 (omega arith) in
     let m : n ≡ length (eventsOf (said text)) = omega (arith, a .0) in
-    record { all = m; fits = omega arith; most = omega (arith, at-most text) }
+    record { all = m; fits = omega arith; most = omega (arith, at-most text); short = short }
 
 -- ---- the words behind an answer that counts n events: `front` was copied over the first of them
 module _ (text words : List ℕ) (n : ℕ) (k : Counted text words n) (front : List ℕ) (len : length front ≡ length (take (3 * n) words)) where
@@ -46,14 +47,14 @@ module _ (text words : List ℕ) (n : ℕ) (k : Counted text words n) (front : L
 -- ---- what is asked on the way
 module _ (text words : List ℕ) (n : ℕ) (k : Counted text words n) where
   small : 3 * n < 2 ^ 64
-  small = omega (arith, k .most)
+  small = omega (arith, k .most, k .short)
 
-  held-fits : (held held′ : List ℕ) → heldWords ≤ length held → length held′ ≡ length held → length (take (3 * n) words) ≤ length held′
+  held-fits : (held held′ : List ℕ) → heldWords (length text) ≤ length held → length held′ ≡ length held → length (take (3 * n) words) ≤ length held′
   held-fits held held′ h e = omega (arith, length-take-le (3 * n) words (k .fits), k .most)
 
-  sort-asks : (held held′ front : List ℕ) → heldWords ≤ length held → length held′ ≡ length held → length front ≡ length (take (3 * n) words)
-      → (n ≤ mostSorted) × ((3 * n ≤ length (front ++ drop (3 * n) words)) × (scratchWords ≤ length held′))
-  sort-asks held held′ front h e f = (omega (arith, k .most), (omega (arith, as-long text words n k front f, k .fits), omega arith))
+  sort-asks : (held held′ front : List ℕ) → heldWords (length text) ≤ length held → length held′ ≡ length held → length front ≡ length (take (3 * n) words)
+      → (n ≤ mostSorted) × ((3 * n ≤ length (front ++ drop (3 * n) words)) × (scratchWords n ≤ length held′))
+  sort-asks held held′ front h e f = (omega (arith, k .most, k .short), (omega (arith, as-long text words n k front f, k .fits), omega (arith, k .most)))
 
 -- ---- the places
 abbrev start : tie.After-read-lines → tie.Start
