@@ -3,3 +3,4 @@ pub mod Walk
 pub mod Cutting
 pub mod Lines
 pub mod Runs
+pub mod Between
