@@ -1,2 +1,6 @@
 -- Laws that speak of several calls.
 pub mod Fitting
+pub mod Judged
+pub mod Tests
+pub mod Exactly
+pub mod Appending
