@@ -4,3 +4,5 @@ pub mod Judged
 pub mod Tests
 pub mod Exactly
 pub mod Appending
+pub mod Words
+pub mod Distinct
