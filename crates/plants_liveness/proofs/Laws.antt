@@ -1,6 +1,7 @@
 -- What a reader expects of a core: it rises, has no id of n or over, is of the size picked, and holds a quorum of plants that are not recovering;
--- exactly its plants are up afterwards; the picks used are one for each step of the two shuffles; and a refusal hands the plants back. That a
--- shuffle permutes is in Shuffling, and that sorting does in Sorting. Assumes nothing.
+-- exactly its plants are up afterwards, and the crashes and restarts rise by those who went down or came up; the picks used are one for each
+-- step of the two shuffles; and a refusal hands the plants back. That a shuffle permutes is in Shuffling, and that sorting does in Sorting.
+-- Assumes nothing.
 use mathlib.Core.Bool.{Bool, true, false, cond, not, _&&_, and-comm}
 use mathlib.Core.List.{List, [], _∷_, _++_}
 use mathlib.Core.Path.{_≡_, refl, sym, ap, _∙_}
@@ -145,7 +146,8 @@ module _ (s : Plants) (flags picks : List ℕ) (full : Bool) (e : choiceTested s
       let up = none-past-core (s .n) (coreOf (s .n) flags picks full) none-over (s .n) 0 most (omega arith) in
       rw e (sym (good next (count-holds s (lent-passed s flags picks full (parts .0) .0)) (by-counts next up true (none-past (s .n) most) fits)))
 
-  -- ---- the counts: a crash for each plant that was up and is not in the core, and a restart for each core plant that was down
+  -- ---- the counts: a crash for each plant that was up and is not in the core, and a restart for each core plant that was down, of a state
+  -- that has a flag for each of its n plants, as any that the code makes has
   flag-is : (i : ℕ) → i < s .n → getD (upAfter (coreOf (s .n) flags picks full)) i false ≡ member i (coreOf (s .n) flags picks full)
   flag-is i h =
       let core = coreOf (s .n) flags picks full in

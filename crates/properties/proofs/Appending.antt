@@ -4,12 +4,9 @@
 use borrow.Author.Tests.{lt-ltb, le-ltb}
 use native.Mathlib.Omega.{arith}
 use native.Mathlib.Decide.{decLt}
-use native.Mathlib.Nat.{add-zero}
-use mathlib.Core.Bool.{Bool, true, false, cond}
 use mathlib.Core.List.{List, [], _∷_, _++_, append-assoc, append-nil}
 use mathlib.Core.Path.{_≡_, refl, sym, ap, _∙_, subst}
 use Prim.Native.Nat.{ℕ, zero, suc, _+_, _-_, _≤_, _<_, max}
-use lib.Dec.{ltb}
 use lib.ListN.{length, getD, length-append, List·getD-append}
 use lib.Seq.{getD-append-add}
 use Rattle.properties_snapshots.specs.Below.{numbered, maxBelow}
@@ -64,13 +61,16 @@ module _ (c : Cluster) where
   abbrev reached : ℕ → ℕ
   reached r = maxBelow r (λ q. plant c q .commit) known
 
-  -- the canonical entries up to an index m
+  -- the canonical entries from that length on, and all of them up to an index m
+  abbrev further : ℕ → LogEntry
+  further k = canonicalEntry c (known + k)
+
   abbrev upTo : ℕ → List LogEntry
-  upTo m = c .tracker .canonical ++ numbered (m - known) (λ k. canonicalEntry c (known + k))
+  upTo m = c .tracker .canonical ++ numbered (m - known) further
 
   up-long : (m : ℕ) → known ≤ m → length (upTo m) ≡ m
   up-long m h =
-      omega (arith, length-append (c .tracker .canonical) (numbered (m - known) (λ k. canonicalEntry c (known + k))), length-numbered (m - known) (λ k. canonicalEntry c (known + k)))
+      omega (arith, length-append (c .tracker .canonical) (numbered (m - known) further), length-numbered (m - known) further)
 
   up-start : upTo known ≡ c .tracker .canonical
   unfolding numbered
@@ -81,23 +81,21 @@ module _ (c : Cluster) where
   up-more m h =
       let z : suc m - known ≡ suc (m - known) = omega arith in
       let y : known + (m - known) ≡ m = omega arith in
-      let f : ℕ → LogEntry = λ k. canonicalEntry c (known + k) in
-      ap (λ (k : ℕ). c .tracker .canonical ++ numbered k f) z
-      ∙ (sym (append-assoc (c .tracker .canonical) (numbered (m - known) f) (canonicalEntry c (known + (m - known)) ∷ []))
+      ap (λ (k : ℕ). c .tracker .canonical ++ numbered k further) z
+      ∙ (sym (append-assoc (c .tracker .canonical) (numbered (m - known) further) (further (m - known) ∷ []))
       ∙ ap (λ (k : ℕ). upTo m ++ (canonicalEntry c k ∷ [])) y)
 
   up-at : (m i : ℕ) → known ≤ m → i < m → getD (upTo m) i noEntry ≡ canonicalEntry c i
   unfolding canonicalEntry
   up-at m i h l =
-      let f : ℕ → LogEntry = λ k. canonicalEntry c (known + k) in
       elim (decLt i known) [
         | yes g ↦
-            List·getD-append (c .tracker .canonical) (numbered (m - known) f) noEntry i g ∙ rw (lt-ltb i known g)
+            List·getD-append (c .tracker .canonical) (numbered (m - known) further) noEntry i g ∙ rw (lt-ltb i known g)
         | no g ↦
             let z : i ≡ known + (i - known) = omega arith in
             ap (λ (k : ℕ). getD (upTo m) k noEntry) z
-            ∙ (getD-append-add (c .tracker .canonical) (numbered (m - known) f) (i - known) noEntry
-            ∙ (getD-numbered (m - known) f (i - known) noEntry (omega arith) ∙ ap (canonicalEntry c) (sym z)))
+            ∙ (getD-append-add (c .tracker .canonical) (numbered (m - known) further) (i - known) noEntry
+            ∙ (getD-numbered (m - known) further (i - known) noEntry (omega arith) ∙ ap (canonicalEntry c) (sym z)))
       ]
 
   -- a walk that answers so and, if it passes, has gathered the entries up to m

@@ -7,12 +7,12 @@ use mathlib.Core.List.{List, [], _∷_}
 use mathlib.Core.Path.{_≡_, refl, sym, ap, _∙_, subst}
 use Prim.Native.Nat.{ℕ, _-_, _≤_, _<_}
 use lib.Dec.{ltb}
-use lib.ListN.{length, getD, set, replicate, getD-replicate}
+use lib.ListN.{length, getD, set, getD-replicate}
 use lib.Seq.{getD-set-same, getD-set-other}
 use Rattle.basis.specs.Basis.{plantCount}
 use Rattle.properties_snapshots.specs.Cluster.{Cluster, plant, entry, last, clusterIn}
 use Rattle.properties_snapshots.specs.Fits.{trackerFits}
-use Rattle.properties_snapshots.specs.Layout.{logEntries, lengthAt, lastAt, seenAt, trackerWords}
+use Rattle.properties_snapshots.specs.Layout.{lengthAt, lastAt, seenAt, trackerWords}
 use Rattle.properties_snapshots.proofs.Held.{last-held, seen-held}
 use Rattle.properties_snapshots.proofs.Known.{tracker-known}
 use Rattle.properties_verdicts.specs.Verdicts.{andThen, unless}

@@ -1,23 +1,24 @@
 -- A tick call answers exactly what the rules say: the first broken place, a pass if none is broken, or the first refusal; and so does each of
 -- its properties by itself. Assumes nothing.
 use native.Mathlib.Omega.{arith}
-use mathlib.Core.Bool.{Bool, true, false, cond, true≢false, false≢true}
+use mathlib.Core.Bool.{Bool, true, false, cond}
 use mathlib.Core.List.{List}
-use mathlib.Core.Logic.{_↔_, Iff·trans, Iff·symm}
+use mathlib.Core.Logic.{_↔_, Iff·rfl, Iff·trans}
 use mathlib.Core.Path.{_≡_, refl, sym, ap, _∙_, subst}
-use Prim.Native.Nat.{ℕ, _+_, _-_, _≤_, _<_}
+use Prim.Native.Nat.{ℕ, _-_, _≤_, _<_}
 use lib.Dec.{leb, eqb}
 use lib.ListN.{length}
 use Rattle.basis.specs.Basis.{plantCount}
 use Rattle.properties_snapshots.specs.Cluster.{Cluster, plant, last, clusterIn}
 use Rattle.properties_snapshots.specs.Fits.{snapshotFits, trackerFits}
-use Rattle.properties_verdicts.specs.Verdicts.{propertyNumber, propertiesRefusal, andThen, atEntry, overCommitted, unless}
-use Rattle.properties_verdicts.proofs.First.{broken-no-pass, refused-no-pass, then-pass}
+use Rattle.properties_verdicts.specs.Verdicts.{propertyNumber, andThen}
+use Rattle.properties_verdicts.proofs.First.{then-pass}
 use Rattle.properties_commits.specs.Commits.{commitTests, commitNumbers}
 use Rattle.properties_judge.specs.Ticks.{named, asked, overEntries, judgedEntries, tickJudged}
 use Rattle.properties_tick.specs.Calls.{tickRefusal, tickAnswer}
 use Rattle.properties.specs.Places.{Newly, Asked, Place, Before, AskedAt, HoldsAt, First, FirstOf}
-use Rattle.properties.proofs.Judged.{number, same-number, same-place, before-number, before-plant, before-index, before-test, brokenAt, FirstIn, Judged, broken-is, pass-is, not-refused, one-judged, same-judged, then-judged, first-judged}
+use Rattle.properties.proofs.Judged.{number, same-number, same-place, before-number, before-plant, before-index, before-test, brokenAt, Judged, broken-is, pass-is, not-refused, one-judged, same-judged, then-judged, first-judged}
+use Rattle.properties.proofs.Refusals.{count-refused, snapshot-refused, tracker-refused, then-broken}
 use Rattle.properties.proofs.Tests.{op-exactly, commit-exactly, last-exactly, asked-exactly}
 use Rattle.properties_verdicts.specs.declared.Answer.{Answer}
 use Rattle.properties_verdicts.specs.declared.Answer.the-variants.{Pass, Broken, Refused}
@@ -95,19 +96,14 @@ module _ (c : Cluster) where
       (λ r l h. plant-judged r (omega arith))
 
   -- ---- a property of entries: the entries of a plant, and all plants
+  entry-asked : (p : EntryProperty) (r i t : ℕ) → Asked c (named p) r i t ↔ (Newly c r i × (t ≡ 1))
+  entry-asked of-entries.the-variants.PrefixAgreement r i t = Iff·rfl
+  entry-asked of-entries.the-variants.NoDuplicates r i t = Iff·rfl
+  entry-asked of-entries.the-variants.Durability r i t = Iff·rfl
+
   module _ (p : EntryProperty) where
     newly : (d : Place) → Of (named p) d → Newly c (d .plant) (d .index) × (d .test ≡ 1)
-    newly d m = go p (of-asked (named p) d m)
-      where
-        go : (p : EntryProperty) → Asked c (named p) (d .plant) (d .index) (d .test) → Newly c (d .plant) (d .index) × (d .test ≡ 1)
-        go of-entries.the-variants.PrefixAgreement h = h
-        go of-entries.the-variants.NoDuplicates h = h
-        go of-entries.the-variants.Durability h = h
-
-    is-asked : (p : EntryProperty) (r i : ℕ) → Newly c r i → Asked c (named p) r i 1
-    is-asked of-entries.the-variants.PrefixAgreement r i h = (h, refl)
-    is-asked of-entries.the-variants.NoDuplicates r i h = (h, refl)
-    is-asked of-entries.the-variants.Durability r i h = (h, refl)
+    newly d m = entry-asked p (d .plant) (d .index) (d .test) .0 (of-asked (named p) d m)
 
     entries-judged : Judged c (Of (named p)) (overEntries p c)
     unfolding overEntries
@@ -124,13 +120,15 @@ module _ (c : Cluster) where
         (omega (arith, w .1), omega (arith, w .2)))
         (λ i g k. one-judged c (λ d. (Of (named p) d × (d .plant ≡ r)) × (d .index ≡ i))
         (record { property = named p; plant = r; index = i; test = 1 }) (asked p c r i)
-        (((refl, is-asked p r i (omega arith, g, omega arith)), refl), refl)
+        (((refl, entry-asked p r i 1 .1 ((omega arith, g, omega arith), refl)), refl), refl)
         (λ d m. same-place d _ (m .0 .0 .0) (m .0 .1) (m .1) (newly d (m .0 .0) .1))
         (asked-exactly c r i p)))
 
-  -- ---- the properties in their order
-  asked-number : (p : Property) (r i t : ℕ) → Asked c p r i t
-      → (1 ≤ propertyNumber p) × (propertyNumber p ≡ 2 → ⊥) × (propertyNumber p ≡ 5 → ⊥) × (propertyNumber p < 7)
+  -- ---- the properties in their order: 1, 3, 4 and 6
+  abbrev Known : ℕ → Type 0
+  Known k = (0 < k) × (k ≡ 2 → ⊥) × (k ≡ 5 → ⊥) × (k < 7)
+
+  asked-number : (p : Property) (r i t : ℕ) → Asked c p r i t → Known (propertyNumber p)
   unfolding propertyNumber
   asked-number CommitNumber r i t h = omega arith
   asked-number PrefixAgreement r i t h = omega arith
@@ -138,36 +136,46 @@ module _ (c : Cluster) where
   asked-number Durability r i t h = omega arith
   asked-number Convergence r i t h = absurd h
 
-  -- the places of one property by its number
-  numbered-judged : (p : Property) (S : Place → Type 0) (x : Answer) → ((d : Place) → S d → AskedAt c d × (number d ≡ propertyNumber p))
-      → ((d : Place) → AskedAt c d → number d ≡ propertyNumber p → S d) → Judged c (Of p) x → Judged c S x
-  numbered-judged p S x there back =
-      same-judged c (Of p) S x
-      (λ d. (λ m. back d (m .1) (ap propertyNumber (m .0)), λ m. let w = there d m in (same-number (d .property) p (w .1), w .0)))
+  -- the places of the properties over a number; then the first of these properties, and those over its number
+  abbrev Over : ℕ → Place → Type 0
+  Over k d = AskedAt c d × (k < number d)
+
+  next-judged : (p : Property) (k : ℕ) (x y : Answer) → k < propertyNumber p → ((d : Place) → Over k d → propertyNumber p ≤ number d)
+      → Judged c (Of p) x → Judged c (Over (propertyNumber p)) y → Judged c (Over k) (andThen x y)
+  next-judged p k x y h least first more =
+      let bound = propertyNumber p in
+      then-judged c (Over k) number (λ a b m o. before-number a b) bound x y
+      (same-judged c (Of p) (λ d. Over k d × (number d ≤ bound)) x
+      (λ d. (
+        λ m. let e = ap propertyNumber (m .0) in ((m .1, omega arith), omega arith),
+        λ m. (same-number (d .property) p (omega (arith, least d (m .0), m .1)), m .0 .0),
+      ))
+      first)
+      (same-judged c (Over bound) (λ d. Over k d × (bound < number d)) y (λ d. (λ m. ((m .0, omega arith), m .1), λ m. (m .0 .0, m .1))) more)
 
   tick-judged : Judged c (AskedAt c) (tickJudged c)
   unfolding tickJudged judgedEntries propertyNumber
   tick-judged =
-      let known : (d : Place) → AskedAt c d → (1 ≤ number d) × (number d ≡ 2 → ⊥) × (number d ≡ 5 → ⊥) × (number d < 7) =
-      λ d. asked-number (d .property) (d .plant) (d .index) (d .test) in
-      then-judged c (AskedAt c) number (λ a b m o. before-number a b) 1 _ _
-      (numbered-judged CommitNumber (λ d. AskedAt c d × (number d ≤ 1)) _ (λ d m. (m .0, omega (arith, known d (m .0), m .1))) (λ d m e. (m, omega arith)) commits-judged)
-      (then-judged c (λ d. AskedAt c d × (1 < number d)) number (λ a b m o. before-number a b) 3 _ _
-      (numbered-judged PrefixAgreement (λ d. (AskedAt c d × (1 < number d)) × (number d ≤ 3)) _ (λ d m. (m .0 .0, omega (arith, known d (m .0 .0), m .0 .1, m .1)))
-      (λ d m e. ((m, omega arith), omega arith)) (entries-judged of-entries.the-variants.PrefixAgreement))
-      (then-judged c (λ d. (AskedAt c d × (1 < number d)) × (3 < number d)) number (λ a b m o. before-number a b) 4 _ _
-      (numbered-judged NoDuplicates (λ d. ((AskedAt c d × (1 < number d)) × (3 < number d)) × (number d ≤ 4)) _ (λ d m. (m .0 .0 .0, omega (arith, m .0 .1, m .1)))
-      (λ d m e. (((m, omega arith), omega arith), omega arith)) (entries-judged of-entries.the-variants.NoDuplicates))
-      (numbered-judged Durability (λ d. ((AskedAt c d × (1 < number d)) × (3 < number d)) × (4 < number d)) _ (λ d m. (m .0 .0 .0, omega (arith, known d (m .0 .0 .0), m .1)))
-      (λ d m e. (((m, omega arith), omega arith), omega arith)) (entries-judged of-entries.the-variants.Durability))))
+      let known : (d : Place) → AskedAt c d → Known (number d) = λ d. asked-number (d .property) (d .plant) (d .index) (d .test) in
+      same-judged c (Over 0) (AskedAt c) (tickJudged c) (λ d. (λ m. m .0, λ m. (m, known d m .0)))
+      (next-judged CommitNumber 0 _ _ (omega arith) (λ d m. m .1) commits-judged
+      (next-judged PrefixAgreement 1 _ _ (omega arith) (λ d m. omega (arith, known d (m .0), m .1)) (entries-judged of-entries.the-variants.PrefixAgreement)
+      (next-judged NoDuplicates 3 _ _ (omega arith) (λ d m. m .1) (entries-judged of-entries.the-variants.NoDuplicates)
+      (same-judged c (Of Durability) (Over 4) _
+      (λ d. (
+        λ m. let e = ap propertyNumber (m .0) in (m .1, omega arith),
+        λ m. (same-number (d .property) Durability (omega (arith, known d (m .0), m .1)), m .0),
+      ))
+      (entries-judged of-entries.the-variants.Durability)))))
 
   -- ---- what each answers, exactly
   module _ (p : Property) (x : Answer) (judged : Judged c (Of p) x) where
     of-broken : (a : Place) → (x ≡ brokenAt a) ↔ FirstOf p c a
     of-broken a =
-        Iff·trans (broken-is c (Of p) x judged a)
-        (λ f. record { of = f .asked .0; asked = f .asked .1; fails = f .fails; before = λ b e m. f .before b (e, m) },
-        λ f. record { asked = (f .of, f .asked); fails = f .fails; before = λ b m. f .before b (m .0) (m .1) })
+        Iff·trans (broken-is c (Of p) x judged a) (
+          λ f. record { of = f .asked .0; asked = f .asked .1; fails = f .fails; before = λ b e m. f .before b (e, m) },
+          λ f. record { asked = (f .of, f .asked); fails = f .fails; before = λ b m. f .before b (m .0) (m .1) },
+        )
 
     of-pass : (x ≡ Pass) ↔ ((a : Place) → a .property ≡ p → AskedAt c a → HoldsAt c a)
     of-pass = Iff·trans (pass-is c (Of p) x judged) (λ h a e m. h a (e, m), λ h a m. h a (m .0) (m .1))
@@ -187,52 +195,15 @@ module _ (c : Cluster) where
 
   pub broken-exactly : (a : Place) → (tickJudged c ≡ Broken (a .property) (a .plant) (a .index) (a .test)) ↔ First c a
   broken-exactly a =
-      Iff·trans (broken-is c (AskedAt c) (tickJudged c) tick-judged a)
-      (λ f. record { asked = f .asked; fails = f .fails; before = f .before },
-      λ f. record { asked = f .asked; fails = f .fails; before = f .before })
+      Iff·trans (broken-is c (AskedAt c) (tickJudged c) tick-judged a) (
+        λ f. record { asked = f .asked; fails = f .fails; before = f .before },
+        λ f. record { asked = f .asked; fails = f .fails; before = f .before },
+      )
 
   pub pass-exactly : (tickJudged c ≡ Pass) ↔ ((a : Place) → AskedAt c a → HoldsAt c a)
   pass-exactly = pass-is c (AskedAt c) (tickJudged c) tick-judged
 
 -- ---- the call: its refusals come first
-module _ (y : Answer) (never : (e : Refusal) → y ≡ Refused e → ⊥) where
-  abbrev refusing : Bool → Bool → Bool → Answer
-  refusing a b d = andThen (unless PlantCount a) (andThen (unless BadSnapshot b) (unless BadTracker d))
-
-  apart : (e f : Refusal) → (propertiesRefusal e ≡ propertiesRefusal f → ⊥) → Refused e ≡ Refused f → ⊥
-  apart e f d q = d (cc)
-
-  count-refused : (a b d : Bool) → (andThen (refusing a b d) y ≡ Refused PlantCount) ↔ (a ≡ false)
-  unfolding propertiesRefusal
-  count-refused false b d = (λ e. refl, λ e. refl)
-  count-refused true false d = (λ e. absurd (apart BadSnapshot PlantCount (omega arith) e), λ e. absurd (true≢false e))
-  count-refused true true false = (λ e. absurd (apart BadTracker PlantCount (omega arith) e), λ e. absurd (true≢false e))
-  count-refused true true true = (λ e. absurd (never PlantCount e), λ e. absurd (true≢false e))
-
-  snapshot-refused : (a b d : Bool) → (andThen (refusing a b d) y ≡ Refused BadSnapshot) ↔ ((a ≡ true) × (b ≡ false))
-  unfolding propertiesRefusal
-  snapshot-refused false b d = (λ e. absurd (apart PlantCount BadSnapshot (omega arith) e), λ e. absurd (false≢true (e .0)))
-  snapshot-refused true false d = (λ e. (refl, refl), λ e. refl)
-  snapshot-refused true true false = (λ e. absurd (apart BadTracker BadSnapshot (omega arith) e), λ e. absurd (true≢false (e .1)))
-  snapshot-refused true true true = (λ e. absurd (never BadSnapshot e), λ e. absurd (true≢false (e .1)))
-
-  tracker-refused : (a b d : Bool) → (andThen (refusing a b d) y ≡ Refused BadTracker) ↔ ((a ≡ true) × (b ≡ true) × (d ≡ false))
-  unfolding propertiesRefusal
-  tracker-refused false b d = (λ e. absurd (apart PlantCount BadTracker (omega arith) e), λ e. absurd (false≢true (e .0)))
-  tracker-refused true false d = (λ e. absurd (apart BadSnapshot BadTracker (omega arith) e), λ e. absurd (false≢true (e .1)))
-  tracker-refused true true false = (λ e. (refl, refl, refl), λ e. refl)
-  tracker-refused true true true = (λ e. absurd (never BadTracker e), λ e. absurd (true≢false (e .2)))
-
-  -- none of them is a broken place
-  clash : (e : Refusal) (a : Place) → Refused e ≡ brokenAt a → ⊥
-  clash e a q = let z : _≡_ {A = ℕ} 0 1 = cc in omega arith
-
-  then-broken : (a b d : Bool) (x : Place) → (andThen (refusing a b d) y ≡ brokenAt x) ↔ ((refusing a b d ≡ Pass) × (y ≡ brokenAt x))
-  then-broken false b d x = (λ e. absurd (clash PlantCount x e), λ e. absurd (refused-no-pass PlantCount (e .0)))
-  then-broken true false d x = (λ e. absurd (clash BadSnapshot x e), λ e. absurd (refused-no-pass BadSnapshot (e .0)))
-  then-broken true true false x = (λ e. absurd (clash BadTracker x e), λ e. absurd (refused-no-pass BadTracker (e .0)))
-  then-broken true true true x = (λ e. (refl, e), λ e. e .1)
-
 module _ (n : ℕ) (p l t : List ℕ) where
   abbrev c : Cluster
   c = clusterIn n p l t

@@ -4,65 +4,20 @@ use native.Mathlib.Omega.{arith}
 use native.Mathlib.Decide.{decLt}
 use mathlib.Core.Bool.{Bool, true, false, cond, false≢true}
 use mathlib.Core.List.{[], _∷_}
-use mathlib.Core.Logic.{_↔_, _⊎_, inl, inr, ⊎-elim}
+use mathlib.Core.Logic.{_↔_, inl, inr, ⊎-elim}
 use mathlib.Core.Path.{_≡_, refl, sym, ap, _∙_, subst}
-use Prim.Native.Nat.{ℕ, zero, suc, _+_, _≤_, _<_}
+use Prim.Native.Nat.{ℕ, _+_, _≤_, _<_}
 use lib.ListN.{getD}
 use Rattle.properties_snapshots.specs.Cluster.{Cluster}
 use Rattle.properties_verdicts.specs.Verdicts.{propertyNumber, andThen, firstOf}
-use Rattle.properties_verdicts.proofs.First.{broken-no-pass, refused-no-pass, then-stop, first-pass}
+use Rattle.properties_verdicts.proofs.First.{broken-no-pass, refused-no-pass, first-pass}
 use Rattle.properties.specs.Places.{Place, Before, HoldsAt}
+use Rattle.properties.proofs.Found.{first-exactly, first-broken-exactly}
 use Rattle.properties_verdicts.specs.declared.Answer.{Answer}
 use Rattle.properties_verdicts.specs.declared.Answer.the-variants.{Pass, Broken, Refused}
 use Rattle.properties_verdicts.specs.declared.Property.{Property}
 use Rattle.properties_verdicts.specs.declared.Property.the-variants.{CommitNumber, PrefixAgreement, NoDuplicates, Durability, Convergence}
 use Rattle.properties_verdicts.specs.declared.Refusal.{Refusal}
-
--- ---- the first answer that is no pass: it is the answer at some number, and those at the numbers before it pass
-abbrev pub Found : (ℕ → Answer) → (from count : ℕ) → Answer → Type 0
-Found f from count a = (j : ℕ) × (from ≤ j) × (j < from + count) × (f j ≡ a) × ((k : ℕ) → from ≤ k → k < j → f k ≡ Pass)
-
-module _ (a : Answer) (stops : a ≡ Pass → ⊥) where
-  found : (f : ℕ → Answer) (from count : ℕ) → firstOf f from count ≡ a → Found f from count a
-  unfolding firstOf
-  found f from zero e = absurd (stops (sym e))
-  found f from (suc count) e = go (f from) refl e (found f (suc from) count)
-    where
-      go : (x : Answer) → f from ≡ x → andThen x (firstOf f (suc from) count) ≡ a
-          → (firstOf f (suc from) count ≡ a → Found f (suc from) count a) → Found f from (suc count) a
-      go Pass q g more =
-          let w = more g in (
-            w .0,
-            omega (arith, w .1),
-            omega (arith, w .2),
-            w .3,
-            λ k l m.
-                elim (decLt from k) [ yes o ↦ w .4 k o m | no o ↦ let z : k ≡ from = omega arith in ap f z ∙ q ],
-          )
-      go (Broken p r i t) q g more = (from, omega arith, omega arith, q ∙ g, λ k l m. absurd (omega arith))
-      go (Refused x) q g more = (from, omega arith, omega arith, q ∙ g, λ k l m. absurd (omega arith))
-
-  found-first : (f : ℕ → Answer) (from count j : ℕ) → from ≤ j → j < from + count → f j ≡ a → ((k : ℕ) → from ≤ k → k < j → f k ≡ Pass)
-      → firstOf f from count ≡ a
-  unfolding firstOf
-  found-first f from zero j l m e before = absurd (omega arith)
-  found-first f from (suc count) j l m e before =
-      elim (decLt from j) [
-        | yes o ↦
-            rw (before from (omega arith) o)
-            (found-first f (suc from) count j o (omega arith) e (λ k g h. before k (omega arith) h))
-        | no o ↦
-            let z : from ≡ j = omega arith in
-            rw (ap f z ∙ e) (then-stop a (firstOf f (suc from) count) stops)
-      ]
-
-  pub first-exactly : (f : ℕ → Answer) (from count : ℕ) → (firstOf f from count ≡ a) ↔ Found f from count a
-  first-exactly f from count = (found f from count, λ w. found-first f from count (w .0) (w .1) (w .2) (w .3) (w .4))
-
--- so of a broken place
-pub first-broken-exactly : (f : ℕ → Answer) (from count : ℕ) (p : Property) (r i t : ℕ)
-    → (firstOf f from count ≡ Broken p r i t) ↔ Found f from count (Broken p r i t)
-first-broken-exactly f from count p r i t = first-exactly (Broken p r i t) (broken-no-pass p r i t) f from count
 
 -- ---- the order of places
 abbrev pub number : Place → ℕ
@@ -112,19 +67,14 @@ module _ (a b : Place) where
   -- two places of which neither comes before the other are one
   neither-before : (Before a b → ⊥) → (Before b a → ⊥) → a ≡ b
   neither-before x y =
-      let n : number a ≡ number b =
-      let l : number a < number b → ⊥ = λ h. x (inl h) in let m : number b < number a → ⊥ = λ h. y (inl h) in omega arith in
-      let p = same-number (a .property) (b .property) n in
-      let r : a .plant ≡ b .plant =
-      let l : a .plant < b .plant → ⊥ = λ h. x (inr (p, inl h)) in
-      let m : b .plant < a .plant → ⊥ = λ h. y (inr (sym p, inl h)) in omega arith in
-      let i : a .index ≡ b .index =
-      let l : a .index < b .index → ⊥ = λ h. x (inr (p, inr (r, inl h))) in
-      let m : b .index < a .index → ⊥ = λ h. y (inr (sym p, inr (sym r, inl h))) in omega arith in
-      let t : a .test ≡ b .test =
-      let l : a .test < b .test → ⊥ = λ h. x (inr (p, inr (r, inr (i, h)))) in
-      let m : b .test < a .test → ⊥ = λ h. y (inr (sym p, inr (sym r, inr (sym i, h)))) in omega arith in
+      let p = same-number (a .property) (b .property) (meet (number a) (number b) (λ h. x (inl h)) (λ h. y (inl h))) in
+      let r = meet (a .plant) (b .plant) (λ h. x (inr (p, inl h))) (λ h. y (inr (sym p, inl h))) in
+      let i = meet (a .index) (b .index) (λ h. x (inr (p, inr (r, inl h)))) (λ h. y (inr (sym p, inr (sym r, inl h)))) in
+      let t = meet (a .test) (b .test) (λ h. x (inr (p, inr (r, inr (i, h))))) (λ h. y (inr (sym p, inr (sym r, inr (sym i, h))))) in
       same-place p r i t
+    where
+      meet : (m n : ℕ) → (m < n → ⊥) → (n < m → ⊥) → m ≡ n
+      meet m n l k = omega arith
 
 -- ---- an answer and its places
 abbrev pub brokenAt : Place → Answer
@@ -140,6 +90,7 @@ module _ (c : Cluster) where
     pub fails : HoldsAt c a → ⊥
     pub before : (b : Place) → S b → Before b a → HoldsAt c b
 
+  -- an answer that judges them
   pub data Judged (S : Place → Type 0) (x : Answer) : Type 0 where
     passes : x ≡ Pass → ((b : Place) → S b → HoldsAt c b) → Judged S x
     breaks : (a : Place) → x ≡ brokenAt a → FirstIn S a → Judged S x

@@ -18,12 +18,6 @@ use Rattle.properties.specs.Places.{CommitTest, Holds}
 use Rattle.properties_judge.specs.declared.EntryProperty.{EntryProperty}
 use Rattle.properties_judge.specs.declared.EntryProperty.the-variants.{PrefixAgreement, NoDuplicates, Durability}
 
-equal-exactly : (a b : ℕ) → (eqb a b ≡ true) ↔ (a ≡ b)
-equal-exactly a b = (eqb-true a b, eq-eqb a b)
-
-at-most-exactly : (a b : ℕ) → (leb a b ≡ true) ↔ (a ≤ b)
-at-most-exactly a b = (leb-true a b, le-leb a b)
-
 module _ (c : Cluster) (r : ℕ) where
   -- property 1: its three tests
   pub op-exactly : (eqb (plant c r .op) (length (plant c r .log)) ≡ true) ↔ CommitTest c r 1

@@ -1,5 +1,5 @@
--- What a tick call does to the tracker's words: a pass writes those that the rules name and no other, and any other answer none. Assumes
--- nothing.
+-- What a tick call does to the tracker's words, each of which is in exactly one part: a pass writes those that the rules name and no other,
+-- and any other answer none. Assumes nothing.
 use borrow.Author.Tests.{lt-ltb, le-ltb}
 use native.Mathlib.Omega.{arith}
 use native.Mathlib.Decide.{decLt, ℕ-discrete}
@@ -7,7 +7,7 @@ use mathlib.Core.Bool.{cond}
 use mathlib.Core.List.{List}
 use mathlib.Core.Logic.{inl, inr, ⊎-elim}
 use mathlib.Core.Path.{_≡_, refl, sym, _∙_}
-use Prim.Native.Nat.{ℕ, _+_, _-_, _*_, _/_, _%_, _<_}
+use Prim.Native.Nat.{ℕ, _+_, _-_, _/_, _%_, _<_}
 use lib.Dec.{ltb}
 use Rattle.properties_snapshots.specs.Cluster.{clusterIn}
 use Rattle.properties_snapshots.specs.Layout.{entryWords, logEntries, countAt, lengthAt, lastsAt, canonicalAt, seenAt, trackerWords}
@@ -43,7 +43,7 @@ parts n k h =
           ]
     ]
 
--- and in one only: its part with the plant and index, or the index and the word of the entry, follow from its place
+-- and in one only: which part it is, and of which plant, index or word of an entry, follow from its place
 module _ (n k : ℕ) where
   abbrev pub told : Part n k → ℕ × ℕ × ℕ
   told (theCount e) = (0, 0, 0)

@@ -6,7 +6,7 @@ use mathlib.Core.Path.{_≡_}
 use Prim.Native.Nat.{ℕ, _+_, _≤_, _<_}
 use lib.ListN.{length, getD}
 use Rattle.properties_snapshots.specs.Cluster.{Cluster, plant, entry, last, entryIn, clusterIn}
-use Rattle.properties_snapshots.specs.Layout.{entryWords, logEntries, countAt, lengthAt, lastAt, canonicalAt, seenAt, trackerWords}
+use Rattle.properties_snapshots.specs.Layout.{entryWords, logEntries, countAt, lengthAt, lastAt, canonicalAt, seenAt}
 use Rattle.properties_agreement.specs.Agreement.{committer}
 use Rattle.properties_remembering.specs.Remembering.{lengthAfter}
 
