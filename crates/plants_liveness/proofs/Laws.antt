@@ -1,7 +1,8 @@
 -- What a reader expects of a core: it rises, has no id of n or over, is of the size picked, and holds a quorum of plants that are not recovering;
--- exactly its plants are up afterwards; the picks used are one for each step of the two shuffles; and a refusal hands the plants back. That a
--- shuffle permutes is in Shuffling, and that sorting does in Sorting. Assumes nothing.
-use mathlib.Core.Bool.{Bool, true, false, cond}
+-- exactly its plants are up afterwards, and the crashes and restarts rise by those who went down or came up; the picks used are one for each
+-- step of the two shuffles; and a refusal hands the plants back. That a shuffle permutes is in Shuffling, and that sorting does in Sorting.
+-- Assumes nothing.
+use mathlib.Core.Bool.{Bool, true, false, cond, not, _&&_, and-comm}
 use mathlib.Core.List.{List, [], _∷_, _++_}
 use mathlib.Core.Path.{_≡_, refl, sym, ap, _∙_}
 use Prim.Native.Nat.{ℕ, zero, suc, _+_, _-_, _≤_, _<_}
@@ -13,23 +14,25 @@ use lib.ListN.{length, take, drop, getD}
 use lib.Seq.{length-take-le, take-append-add}
 use Rattle.plants.specs.Refusals.{must}
 use Rattle.basis.specs.Basis.{most, quorum}
-use Rattle.plants.specs.State.{noneSet, countsFit, tested}
+use Rattle.basis.proofs.Laws.{both}
+use Rattle.plants.specs.State.{noneSet, countsFit, plantsFormed, tested}
 use Rattle.plants.specs.Faults.{isUp}
 use Rattle.plants.specs.declared.Plants.{Plants}
 use Rattle.plants.specs.declared.refusal.Refusal.{Refusal}
 use Rattle.plants.specs.declared.refusal.Refusal.the-variants.{CountFull}
 use Rattle.plants.specs.declared.refusal.Test.{Test}
 use Rattle.plants.specs.declared.refusal.Test.the-variants.{Passed, Failed}
-use Rattle.plants.proofs.Testing.{both-pass, holds, count-holds, good, by-counts}
+use Rattle.plants.proofs.Testing.{both-pass, holds, count-holds, form-holds, good, by-counts}
 use Rattle.plants.proofs.Laws.{none-past}
 use Rattle.plants_lineup.specs.Shuffle.{shuffled}
 use Rattle.plants_lineup.specs.Core.{sizePicks, picksUsed, firstPicks, secondPicks, coreSize, idsFrom, those, tally, isHealthy, candidates, filler, lineUp, coreOf}
-use Rattle.plants_liveness.specs.Choice.{member, inCore, settled, lentTested, choiceTested, chosenIf, chosen}
+use Rattle.plants_liveness.specs.Choice.{member, inCore, upAfter, settled, lentTested, choiceTested, chosenIf, chosen}
 use Rattle.plants_liveness.specs.declared.Choice.the-variants.{Refused}
 use Rattle.plants_lineup.proofs.Tallies.{none-counted, tally-cons, all-below, same-length, those-pass, front-passes, tally-append}
-use Rattle.plants_liveness.proofs.Marking.{flag-of}
+use Rattle.plants_liveness.proofs.Marking.{length-flags, flag-of}
 use Rattle.plants_lineup.proofs.Lining.{dealt-length, healthy-enough, filler-length}
 use Rattle.plants_liveness.proofs.Lending.{Ready, lent-passed}
+use Rattle.plants_liveness.proofs.Counts.{newly-counted}
 use Rattle.plants_liveness.proofs.Choosing.{front, in-range, front-size, front-below, core-permutes, core-is}
 
 -- strictly rising, from a on
@@ -142,6 +145,40 @@ module _ (s : Plants) (flags picks : List ℕ) (full : Bool) (e : choiceTested s
       let fits = holds (countsFit next) CountFull (parts .1) in
       let up = none-past-core (s .n) (coreOf (s .n) flags picks full) none-over (s .n) 0 most (omega arith) in
       rw e (sym (good next (count-holds s (lent-passed s flags picks full (parts .0) .0)) (by-counts next up true (none-past (s .n) most) fits)))
+
+  -- ---- the counts: a crash for each plant that was up and is not in the core, and a restart for each core plant that was down, of a state
+  -- that has a flag for each of its n plants, as any that the code makes has
+  flag-is : (i : ℕ) → i < s .n → getD (upAfter (coreOf (s .n) flags picks full)) i false ≡ member i (coreOf (s .n) flags picks full)
+  flag-is i h =
+      let core = coreOf (s .n) flags picks full in
+      flag-of core 0 most i (omega (arith, ready .many)) ∙ ap (λ (x : ℕ). member x core) (zero-add i)
+
+  none-up-past : noneSet (drop (s .n) (s .up)) ≡ true
+  unfolding plantsFormed
+  none-up-past =
+      let up = noneSet (drop (s .n) (s .up)) in
+      let parted = noneSet (drop (s .n) (s .partitioned)) in
+      both up parted (both (up && parted) (countsFit s) (form-holds s (lent-passed s flags picks full (parts .0) .0)) .0) .0
+
+  pub crashes-rise : let core = coreOf (s .n) flags picks full in
+      settled s core .crashes ≡ s .crashes + tally (λ r. isUp s r && not (member r core)) (idsFrom 0 (s .n))
+  crashes-rise =
+      let core = coreOf (s .n) flags picks full in
+      ap (λ (k : ℕ). s .crashes + k)
+      (newly-counted (λ r. isUp s r && not (member r core)) (s .n) 0 (upAfter core) (s .up) (omega (arith, length-flags core 0 most, ready .many)) none-up-past
+      (λ k h. rw (zero-add k, flag-is k h) (and-comm (isUp s k) (not (member k core)))))
+
+  pub restarts-rise : s .n ≤ length (s .up) → let core = coreOf (s .n) flags picks full in
+      settled s core .restarts ≡ s .restarts + tally (λ r. member r core && not (isUp s r)) (idsFrom 0 (s .n))
+  restarts-rise long =
+      let core = coreOf (s .n) flags picks full in
+      ap (λ (k : ℕ). s .restarts + k)
+      (newly-counted (λ r. member r core && not (isUp s r)) (s .n) 0 (s .up) (upAfter core) long
+      (none-past-core (s .n) core none-over (s .n) 0 most (omega arith))
+      (λ k h. rw (zero-add k, flag-is k h) (and-comm (member k core) (not (isUp s k)))))
+
+  pub reboots-stay : settled s (coreOf (s .n) flags picks full) .reboots ≡ s .reboots
+  reboots-stay = refl
 
 -- ---- a refusal hands the plants back as they came
 module _ (s : Plants) (flags picks : List ℕ) (full : Bool) where

@@ -5,4 +5,5 @@ pub mod Ranges
 pub mod Lending
 pub mod Sorting
 pub mod Choosing
+pub mod Counts
 pub mod Laws

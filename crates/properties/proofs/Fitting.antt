@@ -22,7 +22,7 @@ use Rattle.properties_verdicts.specs.declared.Answer.{Answer}
 use Rattle.properties_verdicts.specs.declared.Answer.the-variants.{Pass, Broken, Refused}
 
 -- the words that only a pass changes
-either : (a : Answer) (after before : List ℕ) (P : List ℕ → Type 0) → (a ≡ Pass → P after) → P before → P (onPass a after before)
+pub either : (a : Answer) (after before : List ℕ) (P : List ℕ → Type 0) → (a ≡ Pass → P after) → P before → P (onPass a after before)
 either Pass after before P h b = h refl
 either (Broken p r i t) after before P h b = b
 either (Refused x) after before P h b = b

@@ -4,6 +4,7 @@ use borrow.Author.Tests.{lt-ltb}
 use native.Mathlib.Omega.{arith}
 use native.Mathlib.Decide.{decLt}
 use mathlib.Core.List.{List, [], _∷_, _++_}
+use mathlib.Core.Logic.{_⊎_, inl, ⊎-elim}
 use mathlib.Core.Path.{_≡_, refl, sym, ap, _∙_}
 use Prim.Native.Nat.{ℕ, zero, suc, _+_, _-_, _*_, _≤_, _<_}
 use lib.ListN.{length, getD}
@@ -121,15 +122,23 @@ module _ (n : ℕ) (p l t : List ℕ) (s : Snapshot n p l) (k : Tracked n t) (f 
   unfolding remembered withCommits
   behind j h = laid-above listed lengthAt front j (omega (arith, front-long)) (omega (arith, front-long, listed-long))
 
+  -- a word of the canonical part that lies before the appended entries, or behind them, stays
+  pub after-kept : (j : ℕ) → canonicalAt n 0 ≤ j → j < seenAt n 0 0 → (j < canonicalAt n (getD t lengthAt 0)) ⊎ (canonicalAt n (lengthAfter c) ≤ j)
+      → getD (remembered c t) j 0 ≡ getD t j 0
+  after-kept j a b o =
+      let at = canonicalAt n (getD t lengthAt 0) in
+      let words = wordsOfEntries (appended c) in
+      behind j a
+      ∙ (ap (λ (w : List ℕ). getD w j 0) listed-is
+      ∙ (⊎-elim (λ h. laid-below seen at words j 0 h (omega (arith, seen-long, k .canonical)))
+      (λ h. laid-above seen at words j (omega (arith, appended-words, reach)) (omega (arith, appended-words, reach, seen-long))) o
+      ∙ ids-kept n p l t s k f n (omega arith) .1 j b))
+
   -- an entry that was canonical before stays
   known-entry : (i : ℕ) → i < getD t lengthAt 0 → entryIn (remembered c t) (canonicalAt n i) ≡ entryIn t (canonicalAt n i)
   known-entry i h =
       same-words (remembered c t) t (canonicalAt n i) (canonicalAt n i)
-      (λ m g.
-      behind (canonicalAt n i + m) (omega arith)
-      ∙ (ap (λ (w : List ℕ). getD w (canonicalAt n i + m) 0) listed-is
-      ∙ (laid-below seen (canonicalAt n (getD t lengthAt 0)) (wordsOfEntries (appended c)) (canonicalAt n i + m) 0 (omega arith) (omega (arith, seen-long, k .canonical))
-      ∙ ids-kept n p l t s k f n (omega arith) .1 (canonicalAt n i + m) (omega (arith, k .canonical)))))
+      (λ m g. after-kept (canonicalAt n i + m) (omega arith) (omega (arith, k .canonical)) (inl (omega arith)))
 
   -- an entry that is appended
   new-entry : (i : ℕ) → getD t lengthAt 0 ≤ i → i < lengthAfter c
@@ -242,6 +251,18 @@ module _ (n : ℕ) (p l t : List ℕ) (s : Snapshot n p l) (k : Tracked n t) (f 
         ∙ later n (getD t (seenAt n r i) 0) h (omega arith)
         (laid-below (withIds c r t) (seenAt n r (last c r)) (newIds c r) (seenAt n r i) 0 (omega (arith, reaches r h .0))
         (omega (arith, ids-kept n p l t s k f r (omega arith) .0, k .words, reaches r h .0, f .onward r h, f .within r h, s .sizes r h))
+        ∙ earlier r (omega arith))
+
+    -- one at or past the commit stays too
+    pub after-past : getD p (commitAt r) 0 ≤ i → getD (remembered c t) (seenAt n r i) 0 ≡ getD t (seenAt n r i) 0
+    unfolding withIds
+    after-past g =
+        let e = reaches r h in
+        let a = f .onward r h in
+        from-ids
+        ∙ later n (getD t (seenAt n r i) 0) h (omega arith)
+        (laid-above (withIds c r t) (seenAt n r (last c r)) (newIds c r) (seenAt n r i) (omega (arith, e))
+        (omega (arith, e, ids-kept n p l t s k f r (omega arith) .0, k .words, f .within r h, s .sizes r h))
         ∙ earlier r (omega arith))
 
   -- nothing newly committed

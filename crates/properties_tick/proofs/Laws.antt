@@ -35,7 +35,7 @@ module _ (n : ℕ) (p l t : List ℕ) (pass : tickAnswer n p l t ≡ Pass) where
   c = clusterIn n p l t
 
   -- the words afterwards are those that a pass writes
-  written : tickWords n p l t ≡ remembered c t
+  pub written : tickWords n p l t ≡ remembered c t
   unfolding tickWords
   written = rw pass
 
