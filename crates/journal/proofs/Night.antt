@@ -11,7 +11,9 @@ use Rattle.nights.specs.Net.{Options, Plain, fresh, goodOptions, wellFormed}
 use Rattle.nights.specs.Draws.{fateOf}
 use Rattle.nights.specs.Tests.{Answer, done, refused, verdict, optionTests, ifDone}
 use Rattle.nights.specs.Journal.{Call, change, rewind, mark, State, Step, header, doMark, step}
-use Rattle.nights.specs.Rule.{Entry, standing, Told, start, run, log, ran, Claim}
+use Rattle.nights.specs.Standing.{Entry, standing}
+use Rattle.nights.specs.Rule.{Told}
+use Rattle.nights.specs.Claim.{start, run, log, ran, Claim}
 use Rattle.nights.proofs.Kept.{fresh-formed}
 use Rattle.nights.proofs.Steps.{refused-stays, step-keeps}
 use Rattle.nights.proofs.Claim.{claim-of-the-rules}

@@ -8,7 +8,9 @@ use Rattle.nights.specs.Net.{Options}
 use Rattle.nights.specs.Draws.{fateOf}
 use Rattle.nights.specs.Tests.{Answer}
 use Rattle.nights.specs.Journal.{Call, change, rewind, mark}
-use Rattle.nights.specs.Rule.{Entry, standing, Told, ran, logOf, Claim}
+use Rattle.nights.specs.Standing.{Entry, standing}
+use Rattle.nights.specs.Rule.{Told}
+use Rattle.nights.specs.Claim.{ran, logOf, Claim}
 use Rattle.network.specs.declared.Network.{Network}
 use Rattle.network.specs.Forms.{plainOf, isFormed}
 use Rattle.network.specs.Calls.{firstNetwork}
