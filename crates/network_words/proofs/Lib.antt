@@ -2,3 +2,4 @@
 pub mod Heads
 pub mod Told
 pub mod InPlace
+pub mod ReadBack
