@@ -10,7 +10,7 @@ use denote.Floats.{passes}
 use lib.Dec.{leb, eqb}
 use lib.ListN.{length, drop, replicate, getD, drop-of-length-le}
 use lib.Seq.{drop-cons}
-use lib.Ieee.{binary64}
+use lib.Ieee.{binary64, ofBits}
 use lib.Ieee.Bits.{ofBits-fits}
 use Rattle.basis.specs.Basis.{bit}
 use Rattle.basis.proofs.Laws.{both}
@@ -77,6 +77,29 @@ back-read w long f =
       flag-word (getD w 4 0) (q .1),
     )
     (all-listed headSize 0 w long)
+
+-- The header's table, said once more: what each of the twelve words is read as, and so, since words are read back, where each is
+-- written. Two words exchanged alike in reading and in writing would meet all of the above.
+pub word-by-word : (loss replay min mean flag pending seq sent delivered lost replayed delayed : ℕ)
+    → headIn (loss ∷ replay ∷ min ∷ mean ∷ flag ∷ pending ∷ seq ∷ sent ∷ delivered ∷ lost ∷ replayed ∷ delayed ∷ [])
+    ≡ record {
+      options =
+          record {
+            «packet_loss_probability» = ofBits binary64 loss;
+            «packet_replay_probability» = ofBits binary64 replay;
+            «one_way_delay_min» = min;
+            «one_way_delay_mean» = mean;
+            «fault_client_messages» = eqb flag 1;
+          };
+      pending = pending;
+      seq = seq;
+      sent = sent;
+      delivered = delivered;
+      lost = lost;
+      replayed = replayed;
+      delayed = delayed;
+    }
+word-by-word loss replay min mean flag pending seq sent delivered lost replayed delayed = refl
 
 -- ---- a fresh network
 
