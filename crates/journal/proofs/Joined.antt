@@ -3,7 +3,6 @@ use Prim.Native.Nat.{ℕ}
 use mathlib.Core.Path.{_≡_, refl, ap, _∙_}
 use mathlib.Core.List.{List}
 use lib.ListN.{length}
-use Rattle.nights.specs.Tests.{Answer, done, refused}
 use Rattle.nights.specs.Journal.{rewind}
 use Rattle.network_options.specs.declared.NetworkOptions.{NetworkOptions}
 use Rattle.network_options.specs.declared.Settled.{Settled as Said}
@@ -15,7 +14,8 @@ use Rattle.network_send.specs.Sends.{Sending, sentOf}
 use Rattle.network_send.proofs.Testing.{answer-of}
 use Rattle.network_take.specs.declared.Counted.{Counted}
 use Rattle.network_take.specs.declared.Counted.the-variants.{Records, Refused as Uncounted}
-use Rattle.network_take.specs.Takes.{Count, countedOf, counting}
+use Rattle.network_take.specs.Takes.{Count, countedOf}
+use Rattle.network_take.proofs.Once.{counting-of}
 use Rattle.network.specs.declared.Network.{Network}
 use Rattle.network.specs.declared.Next.{Next}
 use Rattle.network.specs.declared.Taken.{Taken}
@@ -36,11 +36,6 @@ sent-is (Unsent r) = refl
 counted-is : (t : Counted) → answerOfTake t ≡ countedOf t .answer
 counted-is (Records n) = refl
 counted-is (Uncounted r) = refl
-
-counting-of : (a : Answer) (n : ℕ) → counting a n .answer ≡ a
-unfolding counting
-counting-of done n = refl
-counting-of (refused k) n = refl
 
 -- ---- the calls
 
