@@ -60,8 +60,7 @@ module _ (h r : List ℕ) (o : Options) (g : goodOptions o ≡ true) where
   pub new-is-fresh : (newRows h r o .head ≡ headWords (headOf (fresh o))) × (newRows h r o .records ≡ packed [])
       × (plainIn (headIn (newRows h r o .head)) (newRows h r o .records) ≡ fresh o)
   new-is-fresh =
-      let b : headIn (headWords (headOf (fresh o))) ≡ headOf (fresh o) = read-back (headOf (fresh o)) (rw (options-plain o g) g) (options-held o) in
-      (
+      let b : headIn (headWords (headOf (fresh o))) ≡ headOf (fresh o) = read-back (headOf (fresh o)) (rw (options-plain o g) g) (options-held o) in (
         new-head,
         new-records,
         ap₂ (λ (x y : List ℕ). plainIn (headIn x) y) new-head new-records

@@ -4,3 +4,6 @@ pub mod Numbers
 pub mod Composing
 pub mod Unused
 pub mod Batch
+pub mod Sends
+pub mod Places
+pub mod Plants

@@ -15,6 +15,8 @@ use Rattle.chance.specs.declared.Draw.the-variants.{Yes, No, Short}
 use Rattle.nights.specs.Net.{Options, Plain, Fate, refuse, lose, once, twice, Change, send, collect, choose}
 use Rattle.nights.specs.Draws.{Decided, refusing, isFaulted, extrasFor, dueAt, isTick, isLate, alone, both, afterReplay, afterLoss, decided, fateOf}
 use Rattle.nights.specs.Tests.{Answer, done, refused, Test, verdict, allowed, refusal, tests}
+use Rattle.network_options.specs.declared.Refusal.{Refusal as NetworkRefusal}
+use Rattle.network_options.specs.Answers.{refusalNumber}
 use Rattle.network_form.specs.declared.Head.{Head}
 use Rattle.network_form.specs.Forms.{plainIn, formedIn}
 use Rattle.network_form.specs.Calls.{answerIn, formAnswer, listAnswer}
@@ -22,6 +24,13 @@ use Rattle.network_form.proofs.Calling.{call-ill, call-well}
 use Rattle.network_words.specs.Layout.{headFits, headIn}
 use Rattle.network_words.specs.Calls.{ifHead}
 use Rattle.network_words.proofs.Heads.{no-head, a-head}
+use Rattle.network_batch.proofs.Using.{number-over}
+use Rattle.plants.specs.declared.refusal.Refusal.{Refusal as PlantsRefusal}
+use Rattle.plants.specs.Refusals.{plantsRefusal}
+use Rattle.plants_words.proofs.Answering.{nonzero}
+use Rattle.properties_verdicts.specs.declared.Refusal.{Refusal as PropertiesRefusal}
+use Rattle.properties_verdicts.specs.declared.Refusal.the-variants.{PlantCount, NoSuchPlant, BadSnapshot, BadTracker}
+use Rattle.properties_verdicts.specs.Verdicts.{propertiesRefusal}
 
 -- ---- tests in order: what is so of each number that can answer is so of the one that does
 
@@ -140,3 +149,18 @@ head-number h a n k e z = go (headFits h) refl
     go : (b : Bool) → headFits h ≡ b → ⊥
     go true p = n k (sym (a-head h a p) ∙ e) z
     go false p = let q : _≡_ {A = Answer} (refused 23) (refused k) = sym (no-head h a p) ∙ e in let y : 23 ≡ k = cc in omega arith
+
+-- ---- the refusals of the code, by family
+
+pub network-nonzero : (r : NetworkRefusal) → refusalNumber r ≡ 0 → ⊥
+network-nonzero r = number-over r
+
+pub plants-nonzero : (r : PlantsRefusal) → plantsRefusal r ≡ 0 → ⊥
+plants-nonzero r = nonzero r
+
+pub properties-nonzero : (r : PropertiesRefusal) → propertiesRefusal r ≡ 0 → ⊥
+unfolding propertiesRefusal
+properties-nonzero PlantCount e = omega arith
+properties-nonzero NoSuchPlant e = omega arith
+properties-nonzero BadSnapshot e = omega arith
+properties-nonzero BadTracker e = omega arith

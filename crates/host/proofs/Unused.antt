@@ -180,8 +180,7 @@ module _ (o : Options) (now d x : ℕ) (draws otherDraws extras otherExtras : Li
   loss-same (Yes place) e h k = (h, refl)
   loss-same (No place) e h k =
       let p : Float = ofBits binary64 (o .replay) in
-      let r = replay-same (genBoolInSend p draws place) e h k in
-      (
+      let r = replay-same (genBoolInSend p draws place) e h k in (
         between place (genBoolInSend p draws place) (onward p draws otherDraws place) (r .0),
         ap (λ (z : Draw). afterReplay o now otherExtras z) (draw-same p draws otherDraws place d sd (r .0)) ∙ r .1,
       )
@@ -235,8 +234,7 @@ module _ (h r : List ℕ) (m : Letter) where
     -- an accepted send used no more draws and extras than were lent
     pub used-are-lent : (drawsTold (sent draws extras told) ≤ length draws) × (extrasTold (sent draws extras told) ≤ length extras)
     used-are-lent =
-        let u = modest (plainIn (headIn h) r .options) (m .now) draws extras (m .kind) in
-        (
+        let u = modest (plainIn (headIn h) r .options) (m .now) draws extras (m .kind) in (
           omega (arith, ap (λ (l : List ℕ). getD l 2 0) tells, u .draws-within),
           omega (arith, ap (λ (l : List ℕ). getD l 3 0) tells, u .extras-within),
         )

@@ -13,7 +13,7 @@ use lib.ListN.{length, take, getD, set, replicate, length-set}
 use lib.Seq.{ext-getD, getD-set-same, getD-set-other, take-suc}
 use Rattle.plants_liveness.specs.Choice.{member, inCore}
 
-length-flags : (l : List ℕ) (a k : ℕ) → length (inCore l a k) ≡ k
+pub length-flags : (l : List ℕ) (a k : ℕ) → length (inCore l a k) ≡ k
 unfolding inCore
 length-flags l a zero = refl
 length-flags l a (suc k) = ap suc (length-flags l (suc a) k)
