@@ -1,33 +1,30 @@
 -- A tick in one call is its exported calls one after the other. The tick tests the network once and those test it each time: an accepted
 -- call leaves words in form, so the later tests pass. Assumes nothing.
-use Prim.Native.Nat.{ℕ, zero, suc, _+_, _*_, _^_, _≤_}
+use Prim.Native.Nat.{ℕ, zero, suc, _+_, _*_, _≤_}
 use mathlib.Core.Path.{_≡_, refl, sym, ap, _∙_, subst}
 use mathlib.Core.Bool.{Bool, true, false, cond}
-use mathlib.Core.List.{List, [], _∷_}
+use mathlib.Core.List.{List, _∷_}
 use native.Mathlib.Omega.{arith}
 use borrow.Author.Tests.{le-leb, eq-eqb, ne-eqb, eqb-true, eqb-false}
 use lib.Dec.{leb, eqb}
-use lib.ListN.{length, drop, getD}
-use Rattle.nights.specs.Record.{recordWords}
-use Rattle.nights.specs.Net.{Change, send, collect}
-use Rattle.nights.specs.Draws.{Decided, decided}
+use lib.ListN.{length}
+use Rattle.nights.specs.Net.{Change, collect, effect}
+use Rattle.nights.specs.Draws.{Decided, fateOf}
 use Rattle.nights.specs.Tests.{Answer, done, refused}
-use Rattle.network_options.specs.Options.{plainOptions}
 use Rattle.network_form.specs.declared.Head.{Head}
 use Rattle.network_form.specs.Forms.{plainIn, formedIn}
 use Rattle.network_form.specs.Calls.{answerIn, headAfter, recordsAfter, formAnswer}
 use Rattle.network_form.proofs.Calling.{form-well}
-use Rattle.network_form.proofs.Laws.{stays-good}
-use Rattle.network_take.specs.Takes.{dueIn}
 use Rattle.network_words.specs.Layout.{headFits, headIn, headWords}
-use Rattle.network_words.specs.Calls.{Rows, byAnswer, ifHead, inFront, sendTold, sendRows, takeRows}
+use Rattle.network_words.specs.Calls.{Rows, ifHead, takeRows}
 use Rattle.network_words.proofs.Heads.{a-head}
-use Rattle.network_batch.specs.Ticks.{messageWords, mostMessages, letterAt, numberAt, Ran, all, stopped, callAt, drawnBy, sendsFrom, takingLast, afterSends, batchTested, ticked}
+use Rattle.network_batch.specs.Ticks.{messageWords, mostMessages, Ran, all, stopped, callAt, drawnBy, sendsFrom, takingLast, afterSends, batchTested, ticked}
 use Rattle.network_batch.proofs.Sending.{goes-on, stops}
-use Rattle.host.specs.Calls.{drawsTold, extrasTold, Unchanged}
+use Rattle.host.specs.Calls.{drawsTold, extrasTold, InForm, Unchanged}
 use Rattle.host.specs.Batch.{messages, Called, through, halted, sendAt, callsFrom, haltedAt, sendsCalled, takeCalled, calledOneByOne, EveryZero}
 use Rattle.host.proofs.Numbers.{call-number}
-use Rattle.host.proofs.Composing.{number-by, wrote-by, after-in-form, head-again}
+use Rattle.host.proofs.Refusing.{wrote-by, number-by}
+use Rattle.host.proofs.Composing.{after-in-form, head-again, taken-in-form}
 
 -- what the exported calls leave, in the tick's own terms
 abbrev ranBy : Called → Ran
@@ -169,6 +166,13 @@ module _ (h r sends draws extras : List ℕ) (now : ℕ) (out told lent last : L
                 → EveryZero h r sends draws extras now out told lent last
             go true y z = record { sentHead = g; sentRecords = w; drawn = d; added = x; sent = q; taken = eqb-true _ _ y }
             go false y z = absurd (eqb-false (takeRows g w now out last .number) 0 y (omega arith))
+
+    -- and then its words are in form for the next call
+    pub tick-in-form : (a : EveryZero h r sends draws extras now out told lent last)
+        → InForm (inOne .head) (inOne .records) (effect fateOf (collect now (length out)) (plainIn (headIn (a .sentHead)) (a .sentRecords)))
+    unfolding takeCalled
+    tick-in-form a =
+        rw (batch-is-calls, a .sent, a .taken) (taken-in-form (a .sentHead) (a .sentRecords) now out last (a .taken))
 
   -- a tick that is refused leaves every row, whatever it was lent
   pub tick-refused-leaves : (inOne .number ≡ 0 → ⊥) → Unchanged inOne (record { number = 0; head = h; records = r; out = out; told = told })

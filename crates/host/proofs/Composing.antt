@@ -1,85 +1,36 @@
 -- The words that one exported call leaves are in form for the next: an answer of 0 leaves a well-formed network, whose plain form is the
 -- call's effect on the plain form before, and any other answer leaves every row. So from a fresh network on, the plain form is the effect
 -- of the accepted calls, one after the other, and no call answers 23. Assumes nothing.
-use Prim.Native.Nat.{ℕ}
+use Prim.Native.Nat.{ℕ, _*_}
 use mathlib.Core.Path.{_≡_, refl, sym, ap, _∙_, subst}
 use mathlib.Core.Bool.{Bool, true, false, cond}
 use mathlib.Core.List.{List, [], _∷_}
 use native.Mathlib.Omega.{arith}
 use borrow.Author.Tests.{eqb-true, eqb-false}
-use lib.Dec.{eqb}
+use lib.Dec.{leb, eqb}
 use lib.ListN.{length}
-use Rattle.nights.specs.Record.{recs}
+use Rattle.nights.specs.Record.{recordSize}
 use Rattle.nights.specs.Net.{Options, Plain, fresh, Letter, Change, send, collect, choose, effect, goodOptions, wellFormed}
 use Rattle.nights.specs.Draws.{fateOf}
-use Rattle.nights.specs.Tests.{Answer, done, refused, verdict, tests, optionTests}
+use Rattle.nights.specs.Tests.{Answer, done, refused, verdict, tests}
 use Rattle.nights.proofs.Kept.{options-good, counted, fresh-formed}
 use Rattle.network_queue.specs.Packed.{arraySize, packed}
 use Rattle.network_queue.proofs.Packing.{length-packed}
-use Rattle.network_options.specs.Options.{plainOptions, structOptions}
-use Rattle.network_options.proofs.OptionForms.{good-done}
+use Rattle.network_options.specs.Options.{plainOptions}
 use Rattle.network_form.specs.declared.Head.{Head}
 use Rattle.network_form.specs.Forms.{plainIn, headOf, formedIn}
 use Rattle.network_form.specs.Calls.{answerIn, headAfter, recordsAfter, formAnswer, listAnswer}
 use Rattle.network_form.proofs.Maps.{plain-formed, plain-back, formed-back, words-are}
-use Rattle.network_form.proofs.Calling.{call-well, head-follows, records-follow}
-use Rattle.network_form.proofs.Laws.{was-formed, stays-formed, stays-good, stays-long, plain-effect}
-use Rattle.network_words.specs.Layout.{headFits, headIn, headWords}
-use Rattle.network_words.specs.Calls.{Rows, byAnswer, ifHead, newRows, optionRows, sendRows, takeRows, countRows, listRows}
-use Rattle.network_words.proofs.Heads.{no-head, a-head}
-use Rattle.network_words.proofs.InPlace.{plain-back as options-plain, number-done}
-use Rattle.host.specs.Calls.{Exported, sending, taking, choosing, changeOf, onRows, lentTo, answerOn, afterCalls, acceptedOf, effects, InForm, Unchanged}
+use Rattle.network_form.proofs.Calling.{form-well, call-well, head-follows, records-follow}
+use Rattle.network_form.proofs.Laws.{was-formed, stays-formed, plain-effect}
+use Rattle.network_words.specs.Layout.{headIn, headWords}
+use Rattle.network_words.specs.Calls.{Rows, ifHead, newRows, optionRows, sendRows, takeRows, countRows, listRows}
+use Rattle.network_words.proofs.Heads.{a-head}
+use Rattle.network_words.proofs.InPlace.{plain-back as options-plain}
+use Rattle.host.specs.Calls.{Exported, sending, taking, choosing, changeOf, rowsOf, onRows, answerOn, afterCalls, acceptedOf, effects, InForm}
 use Rattle.host.proofs.Heads.{read-back, fits-back, options-held, new-is-fresh}
-use Rattle.host.proofs.Numbers.{tests-behind, call-number, form-number, list-number, head-number}
-
--- ---- an answer of 0, and any other
-
-module _ (a : Answer) (wrote came : Rows) (n : (k : ℕ) → a ≡ refused k → k ≡ 0 → ⊥) where
-  zero-done : byAnswer a wrote came .number ≡ 0 → a ≡ done
-  unfolding byAnswer
-  zero-done e = go a refl e
-    where
-      go : (b : Answer) → a ≡ b → byAnswer b wrote came .number ≡ 0 → a ≡ done
-      go done p q = p
-      go (refused k) p q = absurd (n k p q)
-
-leaves-all : (a : Answer) (wrote came : Rows) → wrote .number ≡ 0 → (byAnswer a wrote came .number ≡ 0 → ⊥) → Unchanged (byAnswer a wrote came) came
-unfolding byAnswer
-leaves-all done wrote came z n = absurd (n z)
-leaves-all (refused k) wrote came z n = record { head = refl; records = refl; out = refl; told = refl }
-
-done-zero : (a : Answer) (wrote came : Rows) → wrote .number ≡ 0 → a ≡ done → byAnswer a wrote came .number ≡ 0
-unfolding byAnswer
-done-zero a wrote came z e = rw e z
-
-pub number-by : (a : Answer) (wrote came : Rows) (k : ℕ) → a ≡ refused k → byAnswer a wrote came .number ≡ k
-unfolding byAnswer
-number-by a wrote came k e = rw e
-
--- ---- calls that change a network
-
-module _ (t : Rows) where
-  -- the answer is 0 exactly if the call is done
-  pub zero-is-done : (c : Exported) → onRows t c .number ≡ 0 → answerOn t c ≡ done
-  zero-is-done (sending m draws extras told) e = zero-done _ _ _ (head-number _ _ (call-number (send m draws extras) (headIn (t .head)) (t .records))) e
-  zero-is-done (taking tick out told) e = zero-done _ _ _ (head-number _ _ (call-number (collect tick (length out)) (headIn (t .head)) (t .records))) e
-  zero-is-done (choosing o) e = zero-done _ _ _ (head-number _ _ (call-number (choose o) (headIn (t .head)) (t .records))) e
-
-  pub done-is-zero : (c : Exported) → answerOn t c ≡ done → onRows t c .number ≡ 0
-  done-is-zero (sending m draws extras told) e = done-zero _ _ _ refl e
-  done-is-zero (taking tick out told) e = done-zero _ _ _ refl e
-  done-is-zero (choosing o) e = done-zero _ _ _ refl e
-
-  -- any other answer leaves every row
-  pub refused-leaves : (c : Exported) → (onRows t c .number ≡ 0 → ⊥) → Unchanged (onRows t c) (lentTo c t)
-  refused-leaves (sending m draws extras told) n = leaves-all _ _ _ refl n
-  refused-leaves (taking tick out told) n = leaves-all _ _ _ refl n
-  refused-leaves (choosing o) n = leaves-all _ _ _ refl n
-
-  pub refused-number : (c : Exported) (k : ℕ) → answerOn t c ≡ refused k → onRows t c .number ≡ k
-  refused-number (sending m draws extras told) k e = number-by _ _ _ k e
-  refused-number (taking tick out told) k e = number-by _ _ _ k e
-  refused-number (choosing o) k e = number-by _ _ _ k e
+use Rattle.host.proofs.Numbers.{tests-behind}
+use Rattle.host.proofs.Refusing.{wrote-by, number-by, done-zero, zero-is-done, done-is-zero, refused-leaves, refused-number, head-done}
 
 -- ---- words in form
 
@@ -119,45 +70,63 @@ same-records : (o : Options) (h : Head) (w : List ℕ) → length w ≡ arraySiz
 unfolding effect
 same-records o h w l e = sym (records-follow h w (choose o) e) ∙ words-are h w (was-formed (choose o) h w e) l
 
--- an answer over words that is done is that of their head
-pub head-done : (h : List ℕ) (a : Answer) → ifHead h a ≡ done → a ≡ done
-head-done h a e = go (headFits h) refl
-  where
-    go : (b : Bool) → headFits h ≡ b → a ≡ done
-    go true p = sym (a-head h a p) ∙ e
-    go false p = let q : _≡_ {A = Answer} (refused 23) done = sym (no-head h a p) ∙ e in let z : _≡_ {A = ℕ} 0 1 = cc in absurd (omega arith)
+-- an answer of 0 leaves words in form, of the effect on the plain form before
+module _ (h r : List ℕ) where
+  pub sent-in-form : (m : Letter) (draws extras told : List ℕ) → let t = sendRows h r m draws extras told in
+      t .number ≡ 0 → InForm (t .head) (t .records) (effect fateOf (send m draws extras) (plainIn (headIn h) r))
+  sent-in-form m draws extras told e =
+      let d = zero-is-done (rowsOf h r) (sending m draws extras told) e in
+      rw (wrote-by _ _ _ d) (after-in-form (send m draws extras) (headIn h) r (head-done h _ d))
 
-pub wrote-by : (a : Answer) (wrote came : Rows) → a ≡ done → byAnswer a wrote came ≡ wrote
-unfolding byAnswer
-wrote-by a wrote came e = rw e
+  pub taken-in-form : (tick : ℕ) (out told : List ℕ) → let t = takeRows h r tick out told in
+      t .number ≡ 0 → InForm (t .head) (t .records) (effect fateOf (collect tick (length out)) (plainIn (headIn h) r))
+  taken-in-form tick out told e =
+      let d = zero-is-done (rowsOf h r) (taking tick out told) e in
+      rw (wrote-by _ _ _ d) (after-in-form (collect tick (length out)) (headIn h) r (head-done h _ d))
 
-module _ (t : Rows) where
-  abbrev plainNow : Plain
-  plainNow = plainIn (headIn (t .head)) (t .records)
-
-  -- an answer of 0 leaves words in form, of the effect on the plain form before
-  pub answered-in-form : (c : Exported) → length (t .records) ≡ arraySize → onRows t c .number ≡ 0
-      → InForm (onRows t c .head) (onRows t c .records) (effect fateOf (changeOf c) plainNow)
-  answered-in-form (sending m draws extras told) l e =
-      let d = zero-is-done t (sending m draws extras told) e in
-      rw (wrote-by _ _ _ d) (after-in-form (send m draws extras) (headIn (t .head)) (t .records) (head-done (t .head) _ d))
-  answered-in-form (taking tick out told) l e =
-      let d = zero-is-done t (taking tick out told) e in
-      rw (wrote-by _ _ _ d) (after-in-form (collect tick (length out)) (headIn (t .head)) (t .records) (head-done (t .head) _ d))
-  answered-in-form (choosing o) l e =
-      let d = zero-is-done t (choosing o) e in
-      let a = head-done (t .head) (answerIn (choose o) (headIn (t .head)) (t .records)) d in
+  pub chosen-in-form : length r ≡ arraySize → (o : Options) → let t = optionRows h r o in
+      t .number ≡ 0 → InForm (t .head) (t .records) (effect fateOf (choose o) (plainIn (headIn h) r))
+  chosen-in-form l o e =
+      let d = zero-is-done (rowsOf h r) (choosing o) e in
+      let a = head-done h (answerIn (choose o) (headIn h) r) d in
       rw (wrote-by _ _ _ d)
-      (subst (λ (w : List ℕ). InForm (headWords (headAfter (choose o) (headIn (t .head)) (t .records))) w (effect fateOf (choose o) plainNow))
-      (same-records o (headIn (t .head)) (t .records) l a) (after-in-form (choose o) (headIn (t .head)) (t .records) a))
+      (subst (λ (w : List ℕ). InForm (headWords (headAfter (choose o) (headIn h) r)) w (effect fateOf (choose o) (plainIn (headIn h) r)))
+      (same-records o (headIn h) r l a) (after-in-form (choose o) (headIn h) r a))
 
-  -- no call on words in form answers 23
-  pub never-23 : (n : Plain) → InForm (t .head) (t .records) n → (c : Exported) → onRows t c .number ≡ 23 → ⊥
-  never-23 n f c e = go (answerOn t c) refl
+pub answered-in-form : (t : Rows) → length (t .records) ≡ arraySize → (c : Exported) → onRows t c .number ≡ 0
+    → InForm (onRows t c .head) (onRows t c .records) (effect fateOf (changeOf c) (plainIn (headIn (t .head)) (t .records)))
+answered-in-form t l (sending m draws extras told) e = sent-in-form (t .head) (t .records) m draws extras told e
+answered-in-form t l (taking tick out told) e = taken-in-form (t .head) (t .records) tick out told e
+answered-in-form t l (choosing o) e = chosen-in-form (t .head) (t .records) l o e
+
+-- ---- no call on words in form answers 23
+
+module _ (h r : List ℕ) (n : Plain) (f : InForm h r n) where
+  formed-answer : (c : Exported) → answerOn (rowsOf h r) c ≡ verdict (tests fateOf (changeOf c) (plainIn (headIn h) r) [])
+  formed-answer c = a-head h (answerIn (changeOf c) (headIn h) r) (f .fits) ∙ call-well (headIn h) r (changeOf c) (f .formed)
+
+  pub never-23 : (c : Exported) → onRows (rowsOf h r) c .number ≡ 23 → ⊥
+  never-23 c e = go (answerOn (rowsOf h r) c) refl
     where
-      go : (a : Answer) → answerOn t c ≡ a → ⊥
-      go done p = let z = done-is-zero t c p in omega arith
-      go (refused k) p = tests-behind plainNow (changeOf c) k (sym (a-head (t .head) (answerIn (changeOf c) (headIn (t .head)) (t .records)) (f .fits) ∙ call-well (headIn (t .head)) (t .records) (changeOf c) (f .formed)) ∙ p) .formed (sym (refused-number t c k p) ∙ e)
+      go : (a : Answer) → answerOn (rowsOf h r) c ≡ a → ⊥
+      go done p = let z = done-is-zero (rowsOf h r) c p in omega arith
+      go (refused k) p =
+          tests-behind (plainIn (headIn h) r) (changeOf c) k (sym (formed-answer c) ∙ p) .formed (sym (refused-number (rowsOf h r) c k p) ∙ e)
+
+  pub always-counted : (told : List ℕ) → countRows h r told .number ≡ 0
+  always-counted told = done-zero _ _ _ refl (a-head h (formAnswer (headIn h) r) (f .fits) ∙ form-well (headIn h) r (f .formed))
+
+  pub never-23-listed : (out told : List ℕ) → listRows h r out told .number ≡ 23 → ⊥
+  unfolding listAnswer verdict
+  never-23-listed out told e = go (leb (recordSize * length (plainIn (headIn h) r .pending)) (length out)) refl
+    where
+      listed : (b : Bool) → leb (recordSize * length (plainIn (headIn h) r .pending)) (length out) ≡ b
+          → ifHead h (listAnswer (headIn h) r (length out)) ≡ cond b done (refused 30)
+      listed b p = a-head h (listAnswer (headIn h) r (length out)) (f .fits) ∙ rw (f .formed, p)
+
+      go : (b : Bool) → leb (recordSize * length (plainIn (headIn h) r .pending)) (length out) ≡ b → ⊥
+      go true p = let z : listRows h r out told .number ≡ 0 = done-zero _ _ _ refl (listed true p) in omega arith
+      go false p = let z : listRows h r out told .number ≡ 30 = number-by _ _ _ 30 (listed false p) in omega arith
 
 -- ---- a fresh network, and calls from there on
 
@@ -175,7 +144,7 @@ unfolding effects
 next-in-form t n c f true p later left more =
     more (effect fateOf (changeOf c) n)
     (subst (λ (m : Plain). InForm (onRows t c .head) (onRows t c .records) (effect fateOf (changeOf c) m)) (f .plain)
-    (answered-in-form t c (f .records) (eqb-true (onRows t c .number) 0 p)))
+    (answered-in-form t (f .records) c (eqb-true (onRows t c .number) 0 p)))
 next-in-form t n c f false p later left more =
     let u = refused-leaves t c (eqb-false (onRows t c .number) 0 p) in
     more n (rw (u .head, u .records) f)
@@ -194,30 +163,3 @@ run-in-form t n f (c ∷ cs) =
 pub run-of-calls : (h r : List ℕ) (o : Options) → goodOptions o ≡ true → (cs : List Exported)
     → InForm (afterCalls (newRows h r o) cs .head) (afterCalls (newRows h r o) cs .records) (effects (fresh o) (acceptedOf (newRows h r o) cs))
 run-of-calls h r o g cs = run-in-form (newRows h r o) (fresh o) (new-in-form h r o g) cs
-
--- ---- the calls that make a network or look at one
-
-options-number : (o : Options) (k : ℕ) → verdict (optionTests o []) ≡ refused k → k ≡ 0 → ⊥
-unfolding tests
-options-number o k e = tests-behind (fresh o) (choose o) k e .over
-
-module _ (h r : List ℕ) where
-  pub new-zero-is-done : (o : Options) → newRows h r o .number ≡ 0 → goodOptions o ≡ true
-  new-zero-is-done o e = good-done o (zero-done _ _ _ (options-number o) e)
-
-  pub new-refused-leaves : (o : Options) → (newRows h r o .number ≡ 0 → ⊥)
-      → Unchanged (newRows h r o) (record { number = 0; head = h; records = r; out = []; told = [] })
-  new-refused-leaves o n = leaves-all _ _ _ refl n
-
-  pub count-zero-is-done : (told : List ℕ) → countRows h r told .number ≡ 0 → ifHead h (formAnswer (headIn h) r) ≡ done
-  count-zero-is-done told e = zero-done _ _ _ (head-number h _ (form-number (headIn h) r)) e
-
-  pub count-refused-leaves : (told : List ℕ) → (countRows h r told .number ≡ 0 → ⊥) → countRows h r told .told ≡ told
-  count-refused-leaves told n = leaves-all _ _ _ refl n .told
-
-  pub list-zero-is-done : (out told : List ℕ) → listRows h r out told .number ≡ 0 → ifHead h (listAnswer (headIn h) r (length out)) ≡ done
-  list-zero-is-done out told e = zero-done _ _ _ (head-number h _ (list-number (headIn h) r (length out))) e
-
-  pub list-refused-leaves : (out told : List ℕ) → (listRows h r out told .number ≡ 0 → ⊥)
-      → Unchanged (listRows h r out told) (record { number = 0; head = h; records = r; out = out; told = told })
-  list-refused-leaves out told n = leaves-all _ _ _ refl n

@@ -11,7 +11,7 @@ use Rattle.basis.specs.Basis.{bit}
 use Rattle.basis.proofs.Laws.{both}
 use Rattle.chance.specs.Probability.{goodWord}
 use Rattle.nights.specs.Record.{recordWords}
-use Rattle.nights.specs.Net.{Options, Plain, fresh, goodOptions}
+use Rattle.nights.specs.Net.{Options, fresh, goodOptions}
 use Rattle.nights.proofs.Kept.{fresh-formed}
 use Rattle.network_queue.specs.Packed.{packed}
 use Rattle.network_options.specs.Options.{plainOptions, structOptions}

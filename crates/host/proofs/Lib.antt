@@ -1,6 +1,7 @@
 -- The laws.
 pub mod Heads
 pub mod Numbers
+pub mod Refusing
 pub mod Composing
 pub mod Unused
 pub mod Batch

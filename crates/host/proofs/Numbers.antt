@@ -1,7 +1,7 @@
 -- No refusal has the number 0, which says that a call is done; and behind the network's own test none has that test's, 23. Assumes
 -- nothing.
 use Prim.Native.Nat.{ℕ, _≤_}
-use mathlib.Core.Path.{_≡_, refl, sym, ap, _∙_, subst}
+use mathlib.Core.Path.{_≡_, refl, sym, _∙_, subst}
 use mathlib.Core.Bool.{Bool, true, false, cond, _&&_}
 use mathlib.Core.List.{List, [], _∷_}
 use native.Mathlib.Omega.{arith}
@@ -13,15 +13,15 @@ use Rattle.chance.specs.Draw.{genBoolInSend}
 use Rattle.chance.specs.declared.Draw.{Draw}
 use Rattle.chance.specs.declared.Draw.the-variants.{Yes, No, Short}
 use Rattle.nights.specs.Net.{Options, Plain, Fate, refuse, lose, once, twice, Change, send, collect, choose}
-use Rattle.nights.specs.Draws.{Decided, refusing, isFaulted, extrasFor, dueAt, isTick, isLate, alone, both, afterReplay, afterLoss, decided, fateOf}
-use Rattle.nights.specs.Tests.{Answer, done, refused, Test, verdict, allowed, refusal, tests}
+use Rattle.nights.specs.Draws.{refusing, isFaulted, extrasFor, dueAt, isTick, isLate, alone, both, afterReplay, afterLoss, decided, fateOf}
+use Rattle.nights.specs.Tests.{Answer, refused, Test, verdict, allowed, refusal, tests}
 use Rattle.network_options.specs.declared.Refusal.{Refusal as NetworkRefusal}
 use Rattle.network_options.specs.Answers.{refusalNumber}
 use Rattle.network_form.specs.declared.Head.{Head}
 use Rattle.network_form.specs.Forms.{plainIn, formedIn}
 use Rattle.network_form.specs.Calls.{answerIn, formAnswer, listAnswer}
 use Rattle.network_form.proofs.Calling.{call-ill, call-well}
-use Rattle.network_words.specs.Layout.{headFits, headIn}
+use Rattle.network_words.specs.Layout.{headFits}
 use Rattle.network_words.specs.Calls.{ifHead}
 use Rattle.network_words.proofs.Heads.{no-head, a-head}
 use Rattle.network_batch.proofs.Using.{number-over}

@@ -1,5 +1,5 @@
 -- Each word stands where the header says, as it is written and as it is read. Assumes nothing.
-use Prim.Native.Nat.{ℕ, zero, suc, _+_, _-_, _*_, _≤_, _<_}
+use Prim.Native.Nat.{ℕ, zero, suc, _+_, _-_, _≤_, _<_}
 use mathlib.Core.Path.{_≡_, refl, sym, ap, _∙_}
 use mathlib.Core.Bool.{Bool, true, false, cond}
 use mathlib.Core.List.{List, [], _∷_, _++_}
@@ -7,17 +7,17 @@ use native.Mathlib.Omega.{arith}
 use native.Mathlib.Decide.{decLt}
 use borrow.Author.Tests.{leb-true}
 use denote.Floats.{passes}
-use lib.Dec.{leb, eqb}
+use lib.Dec.{leb}
 use lib.ListN.{length, take, drop, getD, List·getD-append, List·getD-map}
 use lib.Seq.{getD-take, getD-drop, getD-append-add, ext-getD}
-use Rattle.basis.specs.Basis.{most, plantCount, bit}
+use Rattle.basis.specs.Basis.{plantCount, bit}
 use Rattle.basis.proofs.Laws.{both}
 use Rattle.chance.specs.Probability.{goodWord}
 use Rattle.chance.proofs.ThereAndBack.{there-and-back}
 use Rattle.network_form.specs.declared.Head.{Head}
 use Rattle.network_words.specs.Layout.{headFits, headIn, headWords}
 use Rattle.plants.specs.declared.Plants.{Plants}
-use Rattle.plants_words.specs.Layout.{upAt, bits, allBits, flagOf, flagsIn, flagWordsFit, plantsIn, stateWords, shaped}
+use Rattle.plants_words.specs.Layout.{bits, allBits, flagOf, flagWordsFit, plantsIn, stateWords, shaped}
 use Rattle.plants_words.proofs.Walking.{part-at, length-bits, flag-at as read-flag}
 use Rattle.host.specs.Places.{HeadPlaces, PlantsPlaces}
 

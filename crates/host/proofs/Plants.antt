@@ -1,13 +1,13 @@
 -- The 49 words of a state of plants and the state give each other back; what an accepted call leaves is in shape; and no call on words in
 -- shape answers 40 or 42. Assumes nothing.
-use Prim.Native.Nat.{ℕ, _+_, _-_, _≤_}
+use Prim.Native.Nat.{ℕ, _-_}
 use mathlib.Core.Path.{_≡_, refl, sym, ap, _∙_, subst}
 use mathlib.Core.Bool.{Bool, true, false, cond, not, _&&_}
 use mathlib.Core.List.{List, [], _∷_}
 use native.Mathlib.Omega.{arith}
 use borrow.Author.Tests.{eqb-true, eqb-false}
 use lib.Dec.{leb, ltb, eqb}
-use lib.ListN.{length, getD, set, replicate, length-set, length-append, length-replicate}
+use lib.ListN.{length, replicate, length-set, length-append, length-replicate}
 use Rattle.script.specs.declared.fault.Fault.{Fault}
 use Rattle.script.specs.declared.fault.Fault.the-variants.{Crash, Restart, Reboot, Partition, Heal, HealAll}
 use Rattle.basis.specs.Basis.{most, plantCount, quorum}
@@ -19,7 +19,6 @@ use Rattle.plants.specs.Verdicts.{senderKnown, verdictTested, judgedIf, verdict
 use Rattle.plants.specs.declared.Plants.{Plants}
 use Rattle.plants.specs.declared.Next.{Next}
 use Rattle.plants.specs.declared.Outcome.the-variants.{Done, Refused}
-use Rattle.plants.specs.declared.refusal.Refusal.{Refusal}
 use Rattle.plants.specs.declared.refusal.Refusal.the-variants.{PlantCount, UnknownPlant, CountFull, NoNonce, BadFlags, TooFewPicks, PickOutOfRange, TooFewHealthy}
 use Rattle.plants.specs.declared.refusal.Test.{Test}
 use Rattle.plants.specs.declared.refusal.Test.the-variants.{Passed, Failed}
@@ -30,7 +29,7 @@ use Rattle.plants_liveness.specs.Choice.{settled, lentTested, choiceTested, cho
 use Rattle.plants_liveness.proofs.Laws.{keeps-form as core-keeps-form}
 use Rattle.plants_liveness.proofs.Marking.{length-flags as length-up}
 use Rattle.plants_words.specs.Layout.{stateSize, upAt, partitionedAt, stableAt, plantsIn, stateWords, shaped, faultIn, originIn}
-use Rattle.plants_words.specs.Calls.{orElse, onZero, outcomeNumber, newAnswer, newWords, nextOf, applyAnswer, applyWords, verdictAnswer, judgedNumber, choiceNumber, chosenOf, coreAnswer, coreWords}
+use Rattle.plants_words.specs.Calls.{orElse, outcomeNumber, newAnswer, newWords, nextOf, applyAnswer, applyWords, verdictAnswer, judgedNumber, choiceNumber, chosenOf, coreAnswer, coreWords}
 use Rattle.plants_words.proofs.Walking.{length-part, length-flags}
 use Rattle.plants_words.proofs.Laws.{words-length, read-back, well-shaped}
 use Rattle.plants_words.proofs.Answering.{nonzero, changed, second}

@@ -2,31 +2,26 @@
 -- more and no fewer. And a take at the last tick takes all. Assumes nothing.
 use Prim.Native.Nat.{ℕ, zero, suc, _+_, _-_, _^_, _<_}
 use mathlib.Core.Path.{_≡_, refl, sym, ap, _∙_, subst}
-use mathlib.Core.Logic.{_⊎_, inl, inr}
+use mathlib.Core.Logic.{_⊎_}
 use mathlib.Core.Bool.{true}
 use mathlib.Core.List.{List, [], _∷_, List·Memᴰ as Member}
 use native.Mathlib.Omega.{arith}
 use borrow.Author.Tests.{le-leb}
 use lib.ListN.{length, getD}
-use Rattle.nights.specs.Record.{Record, recordSize, recordAt, recs}
-use Rattle.nights.specs.Net.{Plain, keep, insertAll, rising, dues, Letter, copies, send, collect, isDue, isLater, effect}
+use Rattle.nights.specs.Record.{Record, recordSize, recs}
+use Rattle.nights.specs.Net.{Plain, keep, insertAll, rising, dues, Letter, copies, send, isDue, isLater, effect}
 use Rattle.nights.specs.Draws.{fateOf}
 use Rattle.nights.proofs.Order.{All, keep-all, length-split}
 use Rattle.nights.proofs.Exact.{old-insertAll, in-insertAll, of-insertAll}
 use Rattle.nights.proofs.Kept.{rises}
-use Rattle.network_queue.specs.Packed.{arraySize}
 use Rattle.network_form.specs.Forms.{plainIn}
 use Rattle.network_words.specs.Layout.{headIn}
-use Rattle.network_words.specs.Calls.{Rows, sendRows, takeRows}
-use Rattle.host.specs.Calls.{sending, taking, onRows, InForm}
-use Rattle.host.proofs.Composing.{answered-in-form}
+use Rattle.network_words.specs.Calls.{sendRows, takeRows}
+use Rattle.host.proofs.Composing.{sent-in-form, taken-in-form}
 
 -- what rows hold pending
 abbrev pendingIn : (h r : List ℕ) → List Record
 pendingIn h r = plainIn (headIn h) r .pending
-
-abbrev asRows : (h r : List ℕ) → Rows
-asRows h r = record { number = 0; head = h; records = r; out = []; told = [] }
 
 -- ---- a send
 
@@ -36,7 +31,7 @@ pub record Joined (before new after : List Record) : Type 0 where
   pub copied : (x : Record) → Member x new → Member x after
   pub only : (x : Record) → Member x after → Member x new ⊎ Member x before
 
-module _ (h r : List ℕ) (long : length r ≡ arraySize) (m : Letter) (draws extras told : List ℕ) where
+module _ (h r : List ℕ) (m : Letter) (draws extras told : List ℕ) where
   -- the copies of its fate, numbered from the network's number on
   abbrev pub copiesOf : List Record
   copiesOf = copies m (plainIn (headIn h) r .seq) (dues (fateOf (plainIn (headIn h) r .options) (m .now) (m .kind) draws extras))
@@ -45,7 +40,7 @@ module _ (h r : List ℕ) (long : length r ≡ arraySize) (m : Letter) (draws ex
       t .number ≡ 0 → Joined (pendingIn h r) copiesOf (pendingIn (t .head) (t .records))
   unfolding effect
   send-members e =
-      let f = answered-in-form (asRows h r) (sending m draws extras told) long e in
+      let f = sent-in-form h r m draws extras told e in
       let p : pendingIn (sendRows h r m draws extras told .head) (sendRows h r m draws extras told .records) ≡ insertAll copiesOf (pendingIn h r) = ap (λ (n : Plain). n .pending) (f .plain) in
       subst (λ (l : List Record). Joined (pendingIn h r) copiesOf l) (sym p)
       (record {
@@ -75,11 +70,11 @@ module _ (h r : List ℕ) (small : (i : ℕ) → getD r i 0 < 2 ^ 64) where
   last-tick-takes-all = keep-all (isDue lastTick) (pendingIn h r) (all-due 0 (headIn h .pending))
 
   -- so an accepted take then leaves nothing pending
-  pub last-tick-empties : length r ≡ arraySize → (out told : List ℕ) → let t = takeRows h r lastTick out told in
+  pub last-tick-empties : (out told : List ℕ) → let t = takeRows h r lastTick out told in
       t .number ≡ 0 → pendingIn (t .head) (t .records) ≡ []
   unfolding effect
-  last-tick-empties long out told e =
-      let f = answered-in-form (asRows h r) (taking lastTick out told) long e in
+  last-tick-empties out told e =
+      let f = taken-in-form h r lastTick out told e in
       ap (λ (n : Plain). n .pending) (f .plain)
       ∙ none-left (keep (isLater lastTick) (pendingIn h r))
       (omega (arith, length-split (isDue lastTick) (pendingIn h r), ap length last-tick-takes-all))

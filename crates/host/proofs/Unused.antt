@@ -14,11 +14,10 @@ use Rattle.chance.specs.Probability.{isOne, isZero, thresholdOf}
 use Rattle.chance.specs.Draw.{byWord, genBool, genBoolInSend}
 use Rattle.chance.specs.declared.Draw.{Draw}
 use Rattle.chance.specs.declared.Draw.the-variants.{Yes, No, Short}
-use Rattle.nights.specs.Net.{Options, Plain, once, twice, Letter, send, sendOne, effect}
+use Rattle.nights.specs.Net.{Options, once, twice, Letter, send, sendOne, effect}
 use Rattle.nights.specs.Draws.{Decided, refusing, isFaulted, extrasFor, extraAt, dueAt, isTick, isLate, alone, both, afterReplay, afterLoss, decided, fateOf}
-use Rattle.nights.specs.Tests.{Answer, done, allowed, verdict, sendTests, tests, ifDone}
+use Rattle.nights.specs.Tests.{done, allowed, verdict, sendTests, tests}
 use Rattle.nights.proofs.Run.{passed-tests}
-use Rattle.network_form.specs.declared.Head.{Head}
 use Rattle.network_form.specs.Forms.{plainIn}
 use Rattle.network_form.specs.Calls.{formTest, answerIn, headAfter, recordsAfter}
 use Rattle.network_form.proofs.Calling.{call-well}
@@ -26,8 +25,8 @@ use Rattle.network_form.proofs.Laws.{was-formed}
 use Rattle.network_words.specs.Layout.{headIn}
 use Rattle.network_words.specs.Calls.{Rows, sendRows, sendTold}
 use Rattle.network_batch.proofs.Using.{modest}
-use Rattle.host.specs.Calls.{sending, drawsTold, extrasTold}
-use Rattle.host.proofs.Composing.{zero-is-done, head-done, wrote-by}
+use Rattle.host.specs.Calls.{sending, rowsOf, drawsTold, extrasTold}
+use Rattle.host.proofs.Refusing.{wrote-by, zero-is-done, head-done}
 
 -- ---- two lists with the same first words
 
@@ -224,12 +223,12 @@ module _ (h r : List ℕ) (m : Letter) where
 
   module _ (draws extras told : List ℕ) (e : sent draws extras told .number ≡ 0) where
     is-done : answerIn (send m draws extras) (headIn h) r ≡ done
-    is-done = head-done h _ (zero-is-done (record { number = 0; head = h; records = r; out = []; told = [] }) (sending m draws extras told) e)
+    is-done = head-done h _ (zero-is-done (rowsOf h r) (sending m draws extras told) e)
 
     tells : sent draws extras told .told ≡ sendTold (drawn draws extras)
     tells =
         ap (λ (t : Rows). t .told)
-        (wrote-by _ _ _ (zero-is-done (record { number = 0; head = h; records = r; out = []; told = [] }) (sending m draws extras told) e))
+        (wrote-by _ _ _ (zero-is-done (rowsOf h r) (sending m draws extras told) e))
 
     -- an accepted send used no more draws and extras than were lent
     pub used-are-lent : (drawsTold (sent draws extras told) ≤ length draws) × (extrasTold (sent draws extras told) ≤ length extras)

@@ -27,6 +27,10 @@ changeOf (sending m draws extras told) = send m draws extras
 changeOf (taking tick out told) = collect tick (length out)
 changeOf (choosing o) = choose o
 
+-- a head and records as rows
+abbrev pub rowsOf : (h r : List ℕ) → Rows
+rowsOf h r = record { number = 0; head = h; records = r; out = []; told = [] }
+
 -- what a call answers and leaves, on the head and the records of rows
 abbrev pub onRows : Rows → Exported → Rows
 onRows t (sending m draws extras told) = sendRows (t .head) (t .records) m draws extras told
