@@ -1,5 +1,6 @@
 -- The laws.
 pub mod Heads
+pub mod Deciding
 pub mod Numbers
 pub mod Refusing
 pub mod Composing

@@ -13,7 +13,7 @@ use Rattle.chance.specs.Draw.{genBoolInSend}
 use Rattle.chance.specs.declared.Draw.{Draw}
 use Rattle.chance.specs.declared.Draw.the-variants.{Yes, No, Short}
 use Rattle.nights.specs.Net.{Options, Plain, Fate, refuse, lose, once, twice, Change, send, collect, choose}
-use Rattle.nights.specs.Draws.{refusing, isFaulted, extrasFor, dueAt, isTick, isLate, alone, both, afterReplay, afterLoss, decided, fateOf}
+use Rattle.nights.specs.Draws.{Decided, refusing, isFaulted, extrasFor, dueAt, isTick, isLate, alone, both, afterReplay, afterLoss, decided, fateOf}
 use Rattle.nights.specs.Tests.{Answer, refused, Test, verdict, allowed, refusal, tests}
 use Rattle.network_options.specs.declared.Refusal.{Refusal as NetworkRefusal}
 use Rattle.network_options.specs.Answers.{refusalNumber}
@@ -31,6 +31,7 @@ use Rattle.plants_words.proofs.Answering.{nonzero}
 use Rattle.properties_verdicts.specs.declared.Refusal.{Refusal as PropertiesRefusal}
 use Rattle.properties_verdicts.specs.declared.Refusal.the-variants.{PlantCount, NoSuchPlant, BadSnapshot, BadTracker}
 use Rattle.properties_verdicts.specs.Verdicts.{propertiesRefusal}
+use Rattle.host.proofs.Deciding.{alone-by, both-by}
 
 -- ---- tests in order: what is so of each number that can answer is so of the one that does
 
@@ -56,30 +57,10 @@ Fated (once d x) = Unit {0}
 Fated (twice c d x y) = Unit {0}
 
 module _ (o : Options) (now : ℕ) (draws extras : List ℕ) where
-  alone-fated : (drawn : ℕ) → Fated (alone o now extras drawn .fate)
-  unfolding alone
-  alone-fated drawn = go (leb (extrasFor o 1) (length extras)) (isTick (dueAt o now extras 0))
-    where
-      go : (b t : Bool)
-          → Fated (cond b (cond t (record { fate = once (dueAt o now extras 0) (isLate o extras 0); draws = drawn; extras = extrasFor o 1 }) (refusing 28)) (refusing 27) .fate)
-      go true true = tt
-      go true false = (omega arith, omega arith)
-      go false t = (omega arith, omega arith)
-
-  both-fated : (drawn : ℕ) → Fated (both o now extras drawn .fate)
-  unfolding both
-  both-fated drawn = go (leb (extrasFor o 2) (length extras)) (isTick (dueAt o now extras 0) && isTick (dueAt o now extras 1))
-    where
-      go : (b t : Bool)
-          → Fated (cond b (cond t (record { fate = twice (dueAt o now extras 0) (dueAt o now extras 1) (isLate o extras 0) (isLate o extras 1); draws = drawn; extras = extrasFor o 2 }) (refusing 28)) (refusing 27) .fate)
-      go true true = tt
-      go true false = (omega arith, omega arith)
-      go false t = (omega arith, omega arith)
-
   replay-fated : (d : Draw) → Fated (afterReplay o now extras d .fate)
   unfolding afterReplay
-  replay-fated (Yes place) = both-fated place
-  replay-fated (No place) = alone-fated place
+  replay-fated (Yes place) = both-by (λ (d : Decided). Fated (d .fate)) o now extras place (omega arith, omega arith) (omega arith, omega arith) tt
+  replay-fated (No place) = alone-by (λ (d : Decided). Fated (d .fate)) o now extras place (omega arith, omega arith) (omega arith, omega arith) tt
   replay-fated Short = (omega arith, omega arith)
 
   loss-fated : (d : Draw) → Fated (afterLoss o now draws extras d .fate)

@@ -14,17 +14,21 @@ use Rattle.basis.specs.Basis.{plantCount, bit}
 use Rattle.basis.proofs.Laws.{both}
 use Rattle.chance.specs.Probability.{goodWord}
 use Rattle.chance.proofs.ThereAndBack.{there-and-back}
+use Rattle.nights.specs.Record.{Record, words, recordAt}
+use Rattle.nights.specs.Draws.{Decided}
 use Rattle.network_form.specs.declared.Head.{Head}
 use Rattle.network_words.specs.Layout.{headFits, headIn, headWords}
+use Rattle.network_words.specs.Calls.{sendTold}
+use Rattle.network_batch.specs.Ticks.{letterAt}
 use Rattle.plants.specs.declared.Plants.{Plants}
 use Rattle.plants_words.specs.Layout.{bits, allBits, flagOf, flagWordsFit, plantsIn, stateWords, shaped}
 use Rattle.plants_words.proofs.Walking.{part-at, length-bits, flag-at as read-flag}
-use Rattle.host.specs.Places.{HeadPlaces, PlantsPlaces}
+use Rattle.host.specs.Places.{HeadPlaces, RecordPlaces, MessagePlaces, ToldPlaces, PlantsPlaces}
 
 -- ---- a head
 
-pub head-written : (h : Head) → HeadPlaces (headWords h) h
-head-written h =
+pub head-places : (h : Head) → HeadPlaces (headWords h) h
+head-places h =
     record {
       loss = refl;
       replay = refl;
@@ -46,9 +50,9 @@ flag-word zero h = refl
 flag-word (suc zero) h = refl
 flag-word (suc (suc w)) h = absurd (omega arith)
 
-pub head-read : (w : List ℕ) → headFits w ≡ true → HeadPlaces w (headIn w)
+pub head-places-read : (w : List ℕ) → headFits w ≡ true → HeadPlaces w (headIn w)
 unfolding headFits
-head-read w f =
+head-places-read w f =
     let a = both (goodWord (getD w 0 0)) _ f in
     let b = both (goodWord (getD w 1 0)) _ (a .1) in
     record {
@@ -65,6 +69,21 @@ head-read w f =
       replayed = refl;
       delayed = refl;
     }
+
+-- ---- a record, a message of a tick, and what a send tells
+
+pub record-places : (r : Record) → RecordPlaces (words r) 0 r
+record-places r = record { due = refl; seq = refl; sentAt = refl; sort = refl; origin = refl; to = refl; kind = refl; handle = refl }
+
+pub record-places-read : (w : List ℕ) (b : ℕ) → RecordPlaces w b (recordAt w b)
+record-places-read w b =
+    record { due = refl; seq = refl; sentAt = refl; sort = refl; origin = refl; to = refl; kind = refl; handle = refl }
+
+pub message-places-read : (w : List ℕ) (i : ℕ) → MessagePlaces w i (letterAt w i)
+message-places-read w i = record { now = refl; sort = refl; origin = refl; to = refl; kind = refl; handle = refl }
+
+pub told-places : (d : Decided) → ToldPlaces (sendTold d) d
+told-places d = record { lost = refl; replayed = refl; draws = refl; extras = refl }
 
 -- ---- a state of plants
 
@@ -93,8 +112,8 @@ module _ (s : Plants) (u : length (s .up) ≡ 15) (p : length (s .partitioned) �
   abbrev counts : List ℕ
   counts = s .crashes ∷ s .restarts ∷ s .reboots ∷ []
 
-  pub plants-written : PlantsPlaces (stateWords s) s
-  plants-written =
+  pub plants-places : PlantsPlaces (stateWords s) s
+  plants-places =
       let eu = length-bits (s .up) ∙ u in
       let ep = length-bits (s .partitioned) ∙ p in
       let at-1 = from-1 (s .n) (bits (s .up)) (bits (s .partitioned)) (s .«stable_until») counts eu ep t in
@@ -133,8 +152,8 @@ module _ (w : List ℕ) (e : shaped w ≡ 0) where
       let z : getD (take 30 (drop 1 w)) i 0 ≡ getD w (1 + i) 0 = getD-take 30 (drop 1 w) i 0 h ∙ getD-drop 1 w i 0 in
       omega (arith, small-at (take 30 (drop 1 w)) (shape-parts .1) i)
 
-  pub plants-read : PlantsPlaces w (plantsIn w)
-  plants-read =
+  pub plants-places-read : PlantsPlaces w (plantsIn w)
+  plants-places-read =
       record {
         n = refl;
         up = λ i h. flag-word (getD w (1 + i) 0) (flag-small i (omega arith)) ∙ ap bit (read-flag w 1 i h);

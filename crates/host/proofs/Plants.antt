@@ -34,7 +34,7 @@ use Rattle.plants_words.proofs.Walking.{length-part, length-flags}
 use Rattle.plants_words.proofs.Laws.{words-length, read-back, well-shaped}
 use Rattle.plants_words.proofs.Answering.{nonzero, changed, second}
 use Rattle.host.specs.Plants.{InShape}
-use Rattle.host.proofs.Places.{plants-written, plants-read, plants-settled}
+use Rattle.host.proofs.Places.{plants-places, plants-places-read, plants-settled}
 
 -- ---- there and back
 
@@ -59,7 +59,7 @@ words-sized w l =
 pub plants-back-read : (w : List ℕ) → length w ≡ stateSize → shaped w ≡ 0 → stateWords (plantsIn w) ≡ w
 plants-back-read w l e =
     let z = words-sized w l in
-    plants-settled (stateWords (plantsIn w)) w (plantsIn w) (plants-written (plantsIn w) (z .up) (z .partitioned) (z .stable)) (plants-read w e)
+    plants-settled (stateWords (plantsIn w)) w (plantsIn w) (plants-places (plantsIn w) (z .up) (z .partitioned) (z .stable)) (plants-places-read w e)
     (words-length (plantsIn w) (z .up) (z .partitioned) (z .stable)) l
 
 -- ---- words in shape

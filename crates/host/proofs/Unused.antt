@@ -26,6 +26,7 @@ use Rattle.network_words.specs.Layout.{headIn}
 use Rattle.network_words.specs.Calls.{Rows, sendRows, sendTold}
 use Rattle.network_batch.proofs.Using.{modest}
 use Rattle.host.specs.Calls.{sending, rowsOf, drawsTold, extrasTold}
+use Rattle.host.proofs.Deciding.{alone-by, both-by}
 use Rattle.host.proofs.Refusing.{wrote-by, zero-is-done, head-done}
 
 -- ---- two lists with the same first words
@@ -101,30 +102,18 @@ record Uses (r : Decided) (d x : ℕ) : Type 0 where
   draws : r .draws ≡ d
   extras : r .extras ≡ x
 
+refused-uses : {A : Type 0} → false ≡ true → A
+refused-uses e = let z : _≡_ {A = ℕ} 0 1 = cc in absurd (omega arith)
+
 module _ (o : Options) (now : ℕ) (extras others : List ℕ) where
-  alone-uses : (drawn : ℕ) → allowed (alone o now extras drawn .fate) ≡ true → Uses (alone o now extras drawn) drawn (extrasFor o 1)
-  unfolding alone
-  alone-uses drawn e = go (leb (extrasFor o 1) (length extras)) (isTick (dueAt o now extras 0)) e
-    where
-      to : Bool → Bool → Decided
-      to b t = cond b (cond t (record { fate = once (dueAt o now extras 0) (isLate o extras 0); draws = drawn; extras = extrasFor o 1 }) (refusing 28)) (refusing 27)
+  abbrev Used : (d x : ℕ) → Decided → Type 0
+  Used d x r = allowed (r .fate) ≡ true → Uses r d x
 
-      go : (b t : Bool) → allowed (to b t .fate) ≡ true → Uses (to b t) drawn (extrasFor o 1)
-      go true true q = record { draws = refl; extras = refl }
-      go true false q = let z : _≡_ {A = ℕ} 0 1 = cc in absurd (omega arith)
-      go false t q = let z : _≡_ {A = ℕ} 0 1 = cc in absurd (omega arith)
+  alone-uses : (drawn : ℕ) → Used drawn (extrasFor o 1) (alone o now extras drawn)
+  alone-uses drawn = alone-by (Used drawn (extrasFor o 1)) o now extras drawn refused-uses refused-uses (λ e. record { draws = refl; extras = refl })
 
-  both-uses : (drawn : ℕ) → allowed (both o now extras drawn .fate) ≡ true → Uses (both o now extras drawn) drawn (extrasFor o 2)
-  unfolding both
-  both-uses drawn e = go (leb (extrasFor o 2) (length extras)) (isTick (dueAt o now extras 0) && isTick (dueAt o now extras 1)) e
-    where
-      to : Bool → Bool → Decided
-      to b t = cond b (cond t (record { fate = twice (dueAt o now extras 0) (dueAt o now extras 1) (isLate o extras 0) (isLate o extras 1); draws = drawn; extras = extrasFor o 2 }) (refusing 28)) (refusing 27)
-
-      go : (b t : Bool) → allowed (to b t .fate) ≡ true → Uses (to b t) drawn (extrasFor o 2)
-      go true true q = record { draws = refl; extras = refl }
-      go true false q = let z : _≡_ {A = ℕ} 0 1 = cc in absurd (omega arith)
-      go false t q = let z : _≡_ {A = ℕ} 0 1 = cc in absurd (omega arith)
+  both-uses : (drawn : ℕ) → Used drawn (extrasFor o 2) (both o now extras drawn)
+  both-uses drawn = both-by (Used drawn (extrasFor o 2)) o now extras drawn refused-uses refused-uses (λ e. record { draws = refl; extras = refl })
 
   module _ (x : ℕ) (s : Shared x extras others) where
     extra-same : (k i : ℕ) → i < k → extrasFor o k ≤ x → extraAt o others i ≡ extraAt o extras i
@@ -190,9 +179,6 @@ module _ (o : Options) (now d x : ℕ) (draws otherDraws extras otherExtras : Li
   unfolding decided
   decided-same kind e h k = go (isFaulted o kind) e h k
     where
-      p : Float
-      p = ofBits binary64 (o .loss)
-
       to : Bool → (draws extras : List ℕ) → Decided
       to b l m = cond b (afterLoss o now l m (genBoolInSend (ofBits binary64 (o .loss)) l 0)) (record { fate = once now false; draws = 0; extras = 0 })
 
