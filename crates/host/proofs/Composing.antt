@@ -28,7 +28,7 @@ use Rattle.network_words.specs.Calls.{Rows, ifHead, newRows, optionRows, sendRo
 use Rattle.network_words.proofs.Heads.{a-head}
 use Rattle.network_words.proofs.InPlace.{plain-back as options-plain}
 use Rattle.host.specs.Calls.{Exported, sending, taking, choosing, changeOf, rowsOf, onRows, answerOn, afterCalls, acceptedOf, effects, InForm}
-use Rattle.host.proofs.Heads.{read-back, fits-back, options-held, new-is-fresh}
+use Rattle.host.proofs.Heads.{read-back, fits-back, of-words, new-is-fresh}
 use Rattle.host.proofs.Numbers.{tests-behind}
 use Rattle.host.proofs.Refusing.{wrote-by, number-by, done-zero, zero-is-done, done-is-zero, refused-leaves, refused-number, head-done}
 
@@ -40,7 +40,7 @@ module _ (n : Plain) (f : wellFormed n ≡ true) where
   options-back = rw (options-plain (n .options) (options-good n f)) (options-good n f)
 
   head-back : headIn (headWords (headOf n)) ≡ headOf n
-  head-back = read-back (headOf n) options-back (options-held (n .options))
+  head-back = read-back (headOf n) (of-words (n .options))
 
   words-in-form : InForm (headWords (headOf n)) (packed (n .pending)) n
   words-in-form =
@@ -131,10 +131,7 @@ module _ (h r : List ℕ) (n : Plain) (f : InForm h r n) where
 -- ---- a fresh network, and calls from there on
 
 pub new-in-form : (h r : List ℕ) (o : Options) → goodOptions o ≡ true → InForm (newRows h r o .head) (newRows h r o .records) (fresh o)
-new-in-form h r o g =
-    let b = new-is-fresh h r o g in
-    subst (λ (x : List ℕ). InForm x (newRows h r o .records) (fresh o)) (sym (b .0))
-    (subst (λ (x : List ℕ). InForm (headWords (headOf (fresh o))) x (fresh o)) (sym (b .1)) (words-in-form (fresh o) (fresh-formed o g)))
+new-in-form h r o g = rw (new-is-fresh h r o g) (words-in-form (fresh o) (fresh-formed o g))
 
 next-in-form : (t : Rows) (n : Plain) (c : Exported) → InForm (t .head) (t .records) n → (b : Bool) → eqb (onRows t c .number) 0 ≡ b
     → (later : List Change) (left : Plain → Type 0)

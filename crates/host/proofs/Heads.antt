@@ -1,5 +1,5 @@
 -- The words of a head are read back as that head, and fit; and a fresh network's words are those of the plain form's. Assumes nothing.
-use mathlib.Core.Path.{_≡_, refl, sym, ap, ap₂, _∙_}
+use mathlib.Core.Path.{_≡_, refl, sym, ap}
 use mathlib.Core.Bool.{Bool, true, false}
 use mathlib.Core.List.{List, []}
 use Prim.Native.Nat.{ℕ}
@@ -12,57 +12,46 @@ use Rattle.basis.proofs.Laws.{both}
 use Rattle.chance.specs.Probability.{goodWord}
 use Rattle.nights.specs.Record.{recordWords}
 use Rattle.nights.specs.Net.{Options, fresh, goodOptions}
-use Rattle.nights.proofs.Kept.{fresh-formed}
-use Rattle.network_queue.specs.Packed.{packed}
+use Rattle.network_queue.specs.Packed.{arraySize, packed}
 use Rattle.network_options.specs.Options.{plainOptions, structOptions}
 use Rattle.network_options.proofs.OptionForms.{Held, options-back, tests-pass}
 use Rattle.network_form.specs.declared.Head.{Head}
-use Rattle.network_form.specs.Forms.{plainIn, headOf}
-use Rattle.network_form.proofs.Maps.{plain-back}
+use Rattle.network_form.specs.Forms.{headOf}
 use Rattle.network_words.specs.Layout.{headFits, headIn, optionWords, headWords}
 use Rattle.network_words.specs.Calls.{byAnswer, newRows}
-use Rattle.network_words.proofs.InPlace.{plain-back as options-plain}
+use Rattle.network_words.proofs.InPlace.{plain-back}
 
-flag-back : (b : Bool) → eqb (bit b) 1 ≡ b
-flag-back true = refl
-flag-back false = refl
+eqb-bit : (b : Bool) → eqb (bit b) 1 ≡ b
+eqb-bit true = refl
+eqb-bit false = refl
 
-flag-small : (b : Bool) → leb (bit b) 1 ≡ true
-flag-small true = refl
-flag-small false = refl
+leb-bit : (b : Bool) → leb (bit b) 1 ≡ true
+leb-bit true = refl
+leb-bit false = refl
 
-module _ (h : Head) (g : goodOptions (plainOptions (h .options)) ≡ true) where
+module _ (h : Head) where
+  -- its words are read as that head, where its floats are such as the format holds
   pub read-back : Held (h .options) → headIn (headWords h) ≡ h
-  read-back f = rw (flag-back (h .options .«fault_client_messages»), options-back (h .options) f)
+  read-back held = rw (eqb-bit (h .options .«fault_client_messages»), options-back (h .options) held)
 
-  pub fits-back : headFits (headWords h) ≡ true
+  -- and where its options are good they fit
+  pub fits-back : goodOptions (plainOptions (h .options)) ≡ true → headFits (headWords h) ≡ true
   unfolding headFits goodOptions
-  fits-back =
-      let a = both (goodWord (plainOptions (h .options) .loss)) _ g in
-      let b = both (goodWord (plainOptions (h .options) .replay)) _ (a .1) in
-      rw (a .0, b .0, flag-small (h .options .«fault_client_messages»))
+  fits-back g =
+      let p = both (goodWord (plainOptions (h .options) .loss)) _ g in
+      let q = both (goodWord (plainOptions (h .options) .replay)) _ (p .1) in
+      rw (p .0, q .0, leb-bit (h .options .«fault_client_messages»))
 
--- options read from words are held by their floats
-pub options-held : (o : Options) → Held (structOptions o)
-options-held o = record { loss = ofBits-fits binary64 (o .loss); replay = ofBits-fits binary64 (o .replay) }
+-- the floats of options that were words are such
+pub of-words : (o : Options) → Held (structOptions o)
+of-words o = record { loss = ofBits-fits binary64 (o .loss); replay = ofBits-fits binary64 (o .replay) }
 
-module _ (h r : List ℕ) (o : Options) (g : goodOptions o ≡ true) where
-  new-head : newRows h r o .head ≡ headWords (headOf (fresh o))
-  unfolding byAnswer
-  new-head =
-      rw (tests-pass o g) (ap (λ (p : Options). optionWords p (replicate 7 0)) (sym (options-plain o g)))
-
-  new-records : newRows h r o .records ≡ packed []
-  unfolding byAnswer packed recordWords
-  new-records = rw (tests-pass o g)
-
-  -- a fresh network's words are those of the plain form's fresh network, and are read as it
-  pub new-is-fresh : (newRows h r o .head ≡ headWords (headOf (fresh o))) × (newRows h r o .records ≡ packed [])
-      × (plainIn (headIn (newRows h r o .head)) (newRows h r o .records) ≡ fresh o)
-  new-is-fresh =
-      let b : headIn (headWords (headOf (fresh o))) ≡ headOf (fresh o) = read-back (headOf (fresh o)) (rw (options-plain o g) g) (options-held o) in (
-        new-head,
-        new-records,
-        ap₂ (λ (x y : List ℕ). plainIn (headIn x) y) new-head new-records
-            ∙ (ap (λ (x : Head). plainIn x (packed [])) b ∙ plain-back (fresh o) (fresh-formed o g)),
-      )
+-- what new leaves of good options: the words of a fresh network's plain form
+pub new-is-fresh : (h r : List ℕ) (o : Options) → goodOptions o ≡ true
+    → newRows h r o
+    ≡ record { number = 0; head = headWords (headOf (fresh o)); records = packed (fresh o .pending); out = []; told = [] }
+unfolding byAnswer packed recordWords
+new-is-fresh h r o g =
+    rw (tests-pass o g)
+    (ap (λ (p : Options). record { number = 0; head = optionWords p (replicate 7 0); records = replicate arraySize 0; out = []; told = [] })
+    (sym (plain-back o g)))
