@@ -52,13 +52,16 @@ module _ (sends draws extras lent : List ℕ) where
     abbrev used : Decided
     used = drawnBy sends draws extras place d x (headIn h)
 
+    abbrev after : Head
+    after = headIn (headWords (headAfter call (headIn h) r))
+
     -- of the words that a send leaves
     abbrev Later : Head → Type 0
     Later t = Same left (suc place) (d + used .draws) (x + used .extras) (headWords (headAfter call (headIn h) r)) (recordsAfter call (headIn h) r) t
 
     module _ (f : headFits h ≡ true) where
       -- a send that is done goes on with them
-      goes : answerIn call (headIn h) r ≡ done → Later (headIn (headWords (headAfter call (headIn h) r))) → Same (suc left) place d x h r (headIn h)
+      goes : answerIn call (headIn h) r ≡ done → Later after → Same (suc left) place d x h r (headIn h)
       unfolding callsFrom
       goes e more =
           let m : Later (headAfter call (headIn h) r) = subst Later (head-again call (headIn h) r e) more in
@@ -79,7 +82,7 @@ module _ (sends draws extras lent : List ℕ) where
       (λ e. same-run left (suc place) _ _ _ _ (after-in-form (call left place d x h r) (headIn h) r e .fits))
     where
       go : (a : Answer) → answerIn (call left place d x h r) (headIn h) r ≡ a
-          → (answerIn (call left place d x h r) (headIn h) r ≡ done → Later left place d x h r (headIn (headWords (headAfter (call left place d x h r) (headIn h) r))))
+          → (answerIn (call left place d x h r) (headIn h) r ≡ done → Later left place d x h r (after left place d x h r))
           → Same (suc left) place d x h r (headIn h)
       go done e more = goes left place d x h r f e (more e)
       go (refused k) e more = ends left place d x h r f k e
@@ -122,12 +125,14 @@ module _ (h r sends draws extras : List ℕ) (now : ℕ) (out told lent last : L
       go done e = rw (wrote-by _ _ _ (a-head g _ f ∙ e))
       go (refused k) e = rw (number-by _ _ _ k (a-head g _ f ∙ e), ne-eqb k 0 (call-number (collect now (length out)) (headIn g) w k e))
 
-  after-same : (c : Called) → Fits c → afterSends h r sends draws extras now out told (ranBy c) ≡ takeCalled h r sends draws extras now out told lent last c
+  after-same : (c : Called) → Fits c
+      → afterSends h r sends draws extras now out told (ranBy c) ≡ takeCalled h r sends draws extras now out told lent last c
   unfolding afterSends takeCalled
   after-same (through g w d x) f = take-same g w d x f
   after-same (halted k p) f = refl
 
-  module _ (f : headFits h ≡ true) (g : formedIn (headIn h) r ≡ true) (few : messages sends ≤ mostMessages) (even : length sends ≡ messageWords * messages sends) where
+  module _ (f : headFits h ≡ true) (g : formedIn (headIn h) r ≡ true) (few : messages sends ≤ mostMessages)
+      (even : length sends ≡ messageWords * messages sends) where
     tested-first : inOne ≡ afterSends h r sends draws extras now out told (sendsFrom sends draws extras (messages sends) 0 0 0 (headIn h) r)
     unfolding batchTested
     tested-first =
@@ -190,11 +195,17 @@ module _ (h r sends draws extras : List ℕ) (now : ℕ) (out told lent last : L
       sent (stopped k p) n = record { head = refl; records = refl; out = refl; told = refl }
       sent (all t w d x) n = taken (answerIn (collect now (length out)) t w) t w d x n
 
-      listed : (a b : Bool) (c : Ran) → Left (cond a (cond b (afterSends h r sends draws extras now out told c) (haltedAt h r sends draws extras now out told lent last 24 (messages sends))) (haltedAt h r sends draws extras now out told lent last 24 mostMessages))
+      over : ℕ → Rows
+      over place = haltedAt h r sends draws extras now out told lent last 24 place
+
+      listed : (a b : Bool) (c : Ran)
+          → Left (cond a (cond b (afterSends h r sends draws extras now out told c) (over (messages sends))) (over mostMessages))
       listed true true c n = sent c n
       listed true false c n = record { head = refl; records = refl; out = refl; told = refl }
       listed false b c n = record { head = refl; records = refl; out = refl; told = refl }
 
       first : (a : Answer) → Left (batchTested h r sends draws extras now out told a)
-      first done n = listed (leb (messages sends) mostMessages) (eqb (length sends) (messageWords * messages sends)) (sendsFrom sends draws extras (messages sends) 0 0 0 (headIn h) r) n
+      first done n =
+          listed (leb (messages sends) mostMessages) (eqb (length sends) (messageWords * messages sends))
+          (sendsFrom sends draws extras (messages sends) 0 0 0 (headIn h) r) n
       first (refused k) n = record { head = refl; records = refl; out = refl; told = refl }

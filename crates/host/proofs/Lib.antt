@@ -9,3 +9,4 @@ pub mod Batch
 pub mod Sends
 pub mod Places
 pub mod Plants
+pub mod PlantsRefusing

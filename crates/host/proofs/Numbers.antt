@@ -2,18 +2,17 @@
 -- nothing.
 use Prim.Native.Nat.{ℕ, _≤_}
 use mathlib.Core.Path.{_≡_, refl, sym, _∙_, subst}
-use mathlib.Core.Bool.{Bool, true, false, cond, _&&_}
+use mathlib.Core.Bool.{Bool, true, false, cond}
 use mathlib.Core.List.{List, [], _∷_}
 use native.Mathlib.Omega.{arith}
 use borrow.Author.Tests.{eqb-false}
-use lib.Dec.{leb, eqb}
+use lib.Dec.{eqb}
 use lib.Ieee.{binary64, ofBits}
-use lib.ListN.{length}
 use Rattle.chance.specs.Draw.{genBoolInSend}
 use Rattle.chance.specs.declared.Draw.{Draw}
 use Rattle.chance.specs.declared.Draw.the-variants.{Yes, No, Short}
 use Rattle.nights.specs.Net.{Options, Plain, Fate, refuse, lose, once, twice, Change, send, collect, choose}
-use Rattle.nights.specs.Draws.{Decided, refusing, isFaulted, extrasFor, dueAt, isTick, isLate, alone, both, afterReplay, afterLoss, decided, fateOf}
+use Rattle.nights.specs.Draws.{Decided, isFaulted, afterReplay, afterLoss, decided, fateOf}
 use Rattle.nights.specs.Tests.{Answer, refused, Test, verdict, allowed, refusal, tests}
 use Rattle.network_options.specs.declared.Refusal.{Refusal as NetworkRefusal}
 use Rattle.network_options.specs.Answers.{refusalNumber}
@@ -39,7 +38,7 @@ abbrev Each : (ℕ → Type 0) → List Test → Type 0
 Each P [] = Unit {0}
 Each P (t ∷ ts) = (t .passes ≡ false → P (t .number)) × Each P ts
 
-pub number-among : (P : ℕ → Type 0) (ts : List Test) → Each P ts → (k : ℕ) → verdict ts ≡ refused k → P k
+number-among : (P : ℕ → Type 0) (ts : List Test) → Each P ts → (k : ℕ) → verdict ts ≡ refused k → P k
 unfolding verdict
 number-among P [] u k e = let z : _≡_ {A = ℕ} 0 1 = cc in absurd (omega arith)
 number-among P (t ∷ ts) u k e = go (t .passes) refl (λ q. number-among P ts (u .1) k q) e
@@ -73,8 +72,11 @@ module _ (o : Options) (now : ℕ) (draws extras : List ℕ) where
   unfolding decided
   fated kind = go (isFaulted o kind)
     where
-      go : (b : Bool) → Fated (cond b (afterLoss o now draws extras (genBoolInSend (ofBits binary64 (o .loss)) draws 0)) (record { fate = once now false; draws = 0; extras = 0 }) .fate)
-      go true = loss-fated (genBoolInSend (ofBits binary64 (o .loss)) draws 0)
+      d : Draw
+      d = genBoolInSend (ofBits binary64 (o .loss)) draws 0
+
+      go : (b : Bool) → Fated (cond b (afterLoss o now draws extras d) (record { fate = once now false; draws = 0; extras = 0 }) .fate)
+      go true = loss-fated d
       go false = tt
 
 -- ---- the numbers behind the network's own test

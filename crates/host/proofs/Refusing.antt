@@ -5,9 +5,9 @@ use mathlib.Core.Bool.{Bool, true, false}
 use mathlib.Core.List.{List, []}
 use native.Mathlib.Omega.{arith}
 use lib.ListN.{length}
-use Rattle.nights.specs.Net.{Options, fresh, send, collect, choose}
+use Rattle.nights.specs.Net.{Options, fresh, Change, send, collect, choose}
 use Rattle.nights.specs.Tests.{Answer, done, refused, verdict, tests, optionTests}
-use Rattle.network_form.specs.Calls.{formAnswer, listAnswer}
+use Rattle.network_form.specs.Calls.{answerIn, formAnswer, listAnswer}
 use Rattle.network_words.specs.Layout.{headFits, headIn}
 use Rattle.network_words.specs.Calls.{Rows, byAnswer, ifHead, newRows, countRows, listRows}
 use Rattle.network_words.proofs.Heads.{no-head, a-head}
@@ -21,7 +21,8 @@ unfolding byAnswer
 zero-done done wrote came n e = refl
 zero-done (refused k) wrote came n e = absurd (n k refl e)
 
-leaves-all : (a : Answer) (wrote came : Rows) → wrote .number ≡ 0 → (byAnswer a wrote came .number ≡ 0 → ⊥) → Unchanged (byAnswer a wrote came) came
+leaves-all : (a : Answer) (wrote came : Rows) → wrote .number ≡ 0 → (byAnswer a wrote came .number ≡ 0 → ⊥)
+    → Unchanged (byAnswer a wrote came) came
 unfolding byAnswer
 leaves-all done wrote came z n = absurd (n z)
 leaves-all (refused k) wrote came z n = record { head = refl; records = refl; out = refl; told = refl }
@@ -41,11 +42,14 @@ number-by a wrote came k e = rw e
 -- ---- calls that change a network
 
 module _ (t : Rows) where
+  never-0 : (c : Change) (k : ℕ) → ifHead (t .head) (answerIn c (headIn (t .head)) (t .records)) ≡ refused k → k ≡ 0 → ⊥
+  never-0 c = head-number (t .head) _ (call-number c (headIn (t .head)) (t .records))
+
   -- the answer is 0 exactly if the call is done
   pub zero-is-done : (c : Exported) → onRows t c .number ≡ 0 → answerOn t c ≡ done
-  zero-is-done (sending m draws extras told) e = zero-done _ _ _ (head-number _ _ (call-number (send m draws extras) (headIn (t .head)) (t .records))) e
-  zero-is-done (taking tick out told) e = zero-done _ _ _ (head-number _ _ (call-number (collect tick (length out)) (headIn (t .head)) (t .records))) e
-  zero-is-done (choosing o) e = zero-done _ _ _ (head-number _ _ (call-number (choose o) (headIn (t .head)) (t .records))) e
+  zero-is-done (sending m draws extras told) e = zero-done _ _ _ (never-0 (send m draws extras)) e
+  zero-is-done (taking tick out told) e = zero-done _ _ _ (never-0 (collect tick (length out))) e
+  zero-is-done (choosing o) e = zero-done _ _ _ (never-0 (choose o)) e
 
   pub done-is-zero : (c : Exported) → answerOn t c ≡ done → onRows t c .number ≡ 0
   done-is-zero (sending m draws extras told) e = done-zero _ _ _ refl e

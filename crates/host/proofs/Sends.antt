@@ -9,9 +9,9 @@ use native.Mathlib.Omega.{arith}
 use borrow.Author.Tests.{le-leb}
 use lib.ListN.{length, getD}
 use Rattle.nights.specs.Record.{Record, recordSize, recs}
-use Rattle.nights.specs.Net.{Plain, keep, insertAll, rising, dues, Letter, copies, send, isDue, isLater, effect}
+use Rattle.nights.specs.Net.{Plain, keep, rising, dues, Letter, copies, send, isDue, isLater, effect}
 use Rattle.nights.specs.Draws.{fateOf}
-use Rattle.nights.proofs.Order.{All, keep-all, length-split}
+use Rattle.nights.proofs.Order.{All, all-map, keep-all, length-split}
 use Rattle.nights.proofs.Exact.{old-insertAll, in-insertAll, of-insertAll}
 use Rattle.nights.proofs.Kept.{rises}
 use Rattle.network_form.specs.Forms.{plainIn}
@@ -41,8 +41,7 @@ module _ (h r : List ℕ) (m : Letter) (draws extras told : List ℕ) where
   unfolding effect
   send-members e =
       let f = sent-in-form h r m draws extras told e in
-      let p : pendingIn (sendRows h r m draws extras told .head) (sendRows h r m draws extras told .records) ≡ insertAll copiesOf (pendingIn h r) = ap (λ (n : Plain). n .pending) (f .plain) in
-      subst (λ (l : List Record). Joined (pendingIn h r) copiesOf l) (sym p)
+      subst (λ (l : List Record). Joined (pendingIn h r) copiesOf l) (sym (ap (λ (n : Plain). n .pending) (f .plain)))
       (record {
         rises = rises (effect fateOf (send m draws extras) (plainIn (headIn h) r)) (f .well);
         old = λ x k. old-insertAll x copiesOf (pendingIn h r) k;
@@ -59,15 +58,20 @@ none-left : (l : List Record) → length l ≡ 0 → l ≡ []
 none-left [] e = refl
 none-left (x ∷ xs) e = absurd (omega arith)
 
-module _ (h r : List ℕ) (small : (i : ℕ) → getD r i 0 < 2 ^ 64) where
-  all-due : (b n : ℕ) → All (λ (x : Record). isDue lastTick x ≡ true) (recs r b n)
-  unfolding recs
-  all-due b zero = tt
-  all-due b (suc n) = (le-leb (getD r b 0) lastTick (omega (arith, small b)), all-due (b + recordSize) n)
+-- every record whose due tick is one of 64 bits is due then
+pub last-tick-takes-all : (l : List Record) → All (λ (x : Record). x .due < 2 ^ 64) l → keep (isDue lastTick) l ≡ l
+last-tick-takes-all l a =
+    keep-all (isDue lastTick) l (all-map (λ (x : Record) (h : x .due < 2 ^ 64). le-leb (x .due) lastTick (omega arith)) l a)
 
-  -- every record is due then, since a due tick is a word of 64 bits
-  pub last-tick-takes-all : keep (isDue lastTick) (pendingIn h r) ≡ pendingIn h r
-  last-tick-takes-all = keep-all (isDue lastTick) (pendingIn h r) (all-due 0 (headIn h .pending))
+-- and so are all that are pending in words of 64 bits
+module _ (h r : List ℕ) (small : (i : ℕ) → getD r i 0 < 2 ^ 64) where
+  ticks : (b n : ℕ) → All (λ (x : Record). x .due < 2 ^ 64) (recs r b n)
+  unfolding recs
+  ticks b zero = tt
+  ticks b (suc n) = (small b, ticks (b + recordSize) n)
+
+  pub last-tick-takes-pending : keep (isDue lastTick) (pendingIn h r) ≡ pendingIn h r
+  last-tick-takes-pending = last-tick-takes-all (pendingIn h r) (ticks 0 (headIn h .pending))
 
   -- so an accepted take then leaves nothing pending
   pub last-tick-empties : (out told : List ℕ) → let t = takeRows h r lastTick out told in
@@ -77,4 +81,4 @@ module _ (h r : List ℕ) (small : (i : ℕ) → getD r i 0 < 2 ^ 64) where
       let f = taken-in-form h r lastTick out told e in
       ap (λ (n : Plain). n .pending) (f .plain)
       ∙ none-left (keep (isLater lastTick) (pendingIn h r))
-      (omega (arith, length-split (isDue lastTick) (pendingIn h r), ap length last-tick-takes-all))
+      (omega (arith, length-split (isDue lastTick) (pendingIn h r), ap length last-tick-takes-pending))

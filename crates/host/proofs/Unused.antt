@@ -2,11 +2,11 @@
 -- no more are used than were lent. Assumes nothing.
 use Prim.Native.Nat.{ℕ, _+_, _≤_, _<_}
 use mathlib.Core.Path.{_≡_, refl, sym, ap, _∙_}
-use mathlib.Core.Bool.{Bool, true, false, cond, _&&_}
+use mathlib.Core.Bool.{Bool, true, false, cond}
 use mathlib.Core.List.{List, [], _∷_}
 use native.Mathlib.Omega.{arith}
 use borrow.Author.Tests.{lt-ltb, le-leb}
-use lib.Dec.{leb, ltb, eqb}
+use lib.Dec.{ltb, eqb}
 use lib.Ieee.{Float, binary64, ofBits, toBits}
 use lib.ListN.{length, take, getD, length-take}
 use lib.Seq.{getD-take}
@@ -14,8 +14,8 @@ use Rattle.chance.specs.Probability.{isOne, isZero, thresholdOf}
 use Rattle.chance.specs.Draw.{byWord, genBool, genBoolInSend}
 use Rattle.chance.specs.declared.Draw.{Draw}
 use Rattle.chance.specs.declared.Draw.the-variants.{Yes, No, Short}
-use Rattle.nights.specs.Net.{Options, once, twice, Letter, send, sendOne, effect}
-use Rattle.nights.specs.Draws.{Decided, refusing, isFaulted, extrasFor, extraAt, dueAt, isTick, isLate, alone, both, afterReplay, afterLoss, decided, fateOf}
+use Rattle.nights.specs.Net.{Options, once, Letter, send, sendOne, effect}
+use Rattle.nights.specs.Draws.{Decided, isFaulted, extrasFor, extraAt, dueAt, isLate, alone, both, afterReplay, afterLoss, decided, fateOf}
 use Rattle.nights.specs.Tests.{done, allowed, verdict, sendTests, tests}
 use Rattle.nights.proofs.Run.{passed-tests}
 use Rattle.network_form.specs.Forms.{plainIn}
@@ -73,16 +73,16 @@ module _ (p : Float) (draws others : List ℕ) (place : ℕ) where
     unfolding byWord
     word-same w = go (ltb place (length draws)) (ltb (getD draws place 0) (thresholdOf (toBits binary64 p))) refl w
       where
-        here : place < d → cond (ltb place (length others)) (cond (ltb (getD others place 0) (thresholdOf (toBits binary64 p))) (Yes (place + 1)) (No (place + 1))) Short
-            ≡ cond (ltb (getD draws place 0) (thresholdOf (toBits binary64 p))) (Yes (place + 1)) (No (place + 1))
+        to : Bool → Draw
+        to b = cond b (Yes (place + 1)) (No (place + 1))
+
+        here : place < d → byWord p others place ≡ to (ltb (getD draws place 0) (thresholdOf (toBits binary64 p)))
         here h = rw (lt-ltb place (length others) (omega (arith, s .second)), s .same place h)
 
-        go : (b c : Bool) → ltb (getD draws place 0) (thresholdOf (toBits binary64 p)) ≡ c
-            → Within d (cond b (cond c (Yes (place + 1)) (No (place + 1))) Short)
-            → cond (ltb place (length others)) (cond (ltb (getD others place 0) (thresholdOf (toBits binary64 p))) (Yes (place + 1)) (No (place + 1))) Short
-            ≡ cond b (cond c (Yes (place + 1)) (No (place + 1))) Short
-        go true true q h = here (omega arith) ∙ rw q
-        go true false q h = here (omega arith) ∙ rw q
+        go : (b c : Bool) → ltb (getD draws place 0) (thresholdOf (toBits binary64 p)) ≡ c → Within d (cond b (to c) Short)
+            → byWord p others place ≡ cond b (to c) Short
+        go true true q h = here (omega arith) ∙ ap to q
+        go true false q h = here (omega arith) ∙ ap to q
         go false c q h = absurd h
 
     draw-same : Within d (genBoolInSend p draws place) → genBoolInSend p others place ≡ genBoolInSend p draws place
@@ -145,7 +145,8 @@ module _ (o : Options) (now : ℕ) (extras others : List ℕ) where
 
 -- ---- the whole
 
-module _ (o : Options) (now d x : ℕ) (draws otherDraws extras otherExtras : List ℕ) (sd : Shared d draws otherDraws) (sx : Shared x extras otherExtras) where
+module _ (o : Options) (now d x : ℕ) (draws otherDraws extras otherExtras : List ℕ) (sd : Shared d draws otherDraws)
+    (sx : Shared x extras otherExtras) where
   replay-same : (r : Draw) → let t = afterReplay o now extras r in
       allowed (t .fate) ≡ true → t .draws ≤ d → t .extras ≤ x → Within d r × (afterReplay o now otherExtras r ≡ t)
   unfolding afterReplay
@@ -180,12 +181,15 @@ module _ (o : Options) (now d x : ℕ) (draws otherDraws extras otherExtras : Li
   decided-same kind e h k = go (isFaulted o kind) e h k
     where
       to : Bool → (draws extras : List ℕ) → Decided
-      to b l m = cond b (afterLoss o now l m (genBoolInSend (ofBits binary64 (o .loss)) l 0)) (record { fate = once now false; draws = 0; extras = 0 })
+      to b l m =
+          cond b (afterLoss o now l m (genBoolInSend (ofBits binary64 (o .loss)) l 0)) (record { fate = once now false; draws = 0; extras = 0 })
 
-      go : (b : Bool) → allowed (to b draws extras .fate) ≡ true → to b draws extras .draws ≤ d → to b draws extras .extras ≤ x → to b otherDraws otherExtras ≡ to b draws extras
+      go : (b : Bool) → let t = to b draws extras in
+          allowed (t .fate) ≡ true → t .draws ≤ d → t .extras ≤ x → to b otherDraws otherExtras ≡ t
       go true e h k =
-          let r = loss-same (genBoolInSend (ofBits binary64 (o .loss)) draws 0) e h k in
-          ap (λ (z : Draw). afterLoss o now otherDraws otherExtras z) (draw-same (ofBits binary64 (o .loss)) draws otherDraws 0 d sd (r .0)) ∙ r .1
+          let p : Float = ofBits binary64 (o .loss) in
+          let r = loss-same (genBoolInSend p draws 0) e h k in
+          ap (λ (z : Draw). afterLoss o now otherDraws otherExtras z) (draw-same p draws otherDraws 0 d sd (r .0)) ∙ r .1
       go false e h k = refl
 
 -- other words behind those that a fate used, where it is no refusal, give the same fate and use as many
@@ -195,8 +199,9 @@ pub unused-draws : (o : Options) (now kind : ℕ) (draws draws' extras extras' :
 unused-draws o now kind draws draws' extras extras' e p q =
     let t = decided o now kind draws extras in
     let m = modest o now draws extras kind in
-    decided-same o now (t .draws) (t .extras) draws draws' extras extras' (shared (t .draws) draws draws' (m .draws-within) p) (shared (t .extras) extras extras' (m .extras-within) q)
-    kind e (omega arith) (omega arith)
+    let sd = shared (t .draws) draws draws' (m .draws-within) p in
+    let sx = shared (t .extras) extras extras' (m .extras-within) q in
+    decided-same o now (t .draws) (t .extras) draws draws' extras extras' sd sx kind e (omega arith) (omega arith)
 
 -- ---- over words
 

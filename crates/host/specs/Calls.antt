@@ -37,7 +37,18 @@ onRows t (sending m draws extras told) = sendRows (t .head) (t .records) m draws
 onRows t (taking tick out told) = takeRows (t .head) (t .records) tick out told
 onRows t (choosing o) = optionRows (t .head) (t .records) o
 
--- the rows as they are lent to it: a row that it is not lent is empty
+-- its answer, by the call on the head and the records that the words are
+abbrev pub answerOn : Rows → Exported → Answer
+answerOn t c = ifHead (t .head) (answerIn (changeOf c) (headIn (t .head)) (t .records))
+
+-- where a send tells how many draws and how many extras it used
+abbrev pub drawsTold : Rows → ℕ
+drawsTold t = getD (t .told) 2 0
+
+abbrev pub extrasTold : Rows → ℕ
+extrasTold t = getD (t .told) 3 0
+
+-- the rows as they are lent to a call: one that it is not lent is empty
 abbrev pub outOf : Exported → List ℕ
 outOf (sending m draws extras told) = []
 outOf (taking tick out told) = out
@@ -50,17 +61,6 @@ toldOf (choosing o) = []
 
 abbrev pub lentTo : Exported → Rows → Rows
 lentTo c t = record { number = 0; head = t .head; records = t .records; out = outOf c; told = toldOf c }
-
--- where a send tells how many draws and how many extras it used
-abbrev pub drawsTold : Rows → ℕ
-drawsTold t = getD (t .told) 2 0
-
-abbrev pub extrasTold : Rows → ℕ
-extrasTold t = getD (t .told) 3 0
-
--- its answer
-abbrev pub answerOn : Rows → Exported → Answer
-answerOn t c = ifHead (t .head) (answerIn (changeOf c) (headIn (t .head)) (t .records))
 
 -- calls one after the other: the rows that the last one leaves, and those that were accepted, as calls of the plain form
 unfoldable pub afterCalls : Rows → List Exported → Rows

@@ -1,4 +1,5 @@
--- What the laws of the host's boundary speak of: calls one after the other, a tick by its calls, and where each word stands.
+-- What the laws of the host's boundary speak of: calls one after the other, a tick by its calls, where each word stands, and when the words
+-- of plants are in shape.
 pub mod Calls
 pub mod Batch
 pub mod Places
