@@ -1,6 +1,7 @@
 -- The laws, each file after what it says.
 pub mod Deciding
 pub mod Numbers
+pub mod Numbered
 pub mod Refusing
 pub mod Composing
 pub mod Unused
