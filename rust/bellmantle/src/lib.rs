@@ -24,8 +24,8 @@ mod words;
 
 pub use journal::JournaledNetwork;
 pub use network::{
-    Envelope, Kind, Message, MessageSummary, Network, NetworkOptions, Origin, Sent, TickRefused,
-    Ticked,
+    Envelope, Fate, Kind, Message, MessageSummary, Network, NetworkOptions, Origin, Sent,
+    TickRefused, Ticked,
 };
 pub use plants::{Core, Plants, Verdict};
 pub use properties::{Broken, Property, Snapshot, Tracker};

@@ -2,7 +2,7 @@
 
 use crate::bodies::Bodies;
 use crate::raw::{head, record as at, CAPACITY, MESSAGE_WORDS, RECORDS_WORDS, RECORD_WORDS};
-use crate::{Refusal, Words};
+use crate::{raw, Refusal, Words};
 
 /// Who sends a message.
 #[derive(Clone, Copy, Debug, PartialEq, Eq)]
@@ -75,6 +75,36 @@ impl NetworkOptions {
         }
     }
 
+    /// What becomes of a message of a kind that is sent at tick `now` under these options, with no network at hand. A send on a
+    /// network with these options decides the same. 20, 21, 22, 24, 26, 27, 28.
+    ///
+    /// ```
+    /// use bellmantle::{Kind, NetworkOptions};
+    ///
+    /// let options = NetworkOptions { one_way_delay_min: 2, one_way_delay_mean: 10, ..NetworkOptions::perfect() };
+    /// let fate = options.fate(10, Kind::Prepare as u64, &[], &[5]).unwrap();
+    /// assert_eq!((fate.copy, fate.original, fate.extras), (None, Some(17), 1));
+    /// ```
+    pub fn fate(
+        &self,
+        now: u64,
+        kind: u64,
+        draws: &[u64],
+        extras: &[u64],
+    ) -> Result<Fate, Refusal> {
+        let (loss, replay, min, mean, flag) = self.words();
+        let mut told = [0; raw::FATE_WORDS];
+        Refusal::check(raw::fate(
+            [loss, replay, min, mean, flag],
+            now,
+            kind,
+            draws,
+            extras,
+            &mut told,
+        ))?;
+        Ok(Fate::told(told))
+    }
+
     pub(crate) fn words(&self) -> (u64, u64, u64, u64, u64) {
         (
             self.packet_loss_probability.to_bits(),
@@ -124,6 +154,31 @@ impl Sent {
             (true, _) => 0,
             (false, false) => 1,
             (false, true) => 2,
+        }
+    }
+}
+
+/// What a message's draws and extras decide: how many of each are used, from each front, and when its copies are due.
+#[derive(Clone, Copy, Debug, PartialEq, Eq, Hash)]
+pub struct Fate {
+    /// How many draws are used.
+    pub draws: usize,
+    /// How many extras are used.
+    pub extras: usize,
+    /// When the replayed copy is due, which is numbered first; none where the message is not replayed.
+    pub copy: Option<u64>,
+    /// When the message itself is due; none where it is lost.
+    pub original: Option<u64>,
+}
+
+impl Fate {
+    fn told(words: [u64; raw::FATE_WORDS]) -> Fate {
+        let [lost, replayed, draws, extras, copy, original] = words;
+        Fate {
+            draws: draws as usize,
+            extras: extras as usize,
+            copy: (replayed == 1).then_some(copy),
+            original: (lost == 0).then_some(original),
         }
     }
 }
