@@ -8,9 +8,11 @@ use Rattle.nights.specs.Net.{Options}
 use Rattle.nights.specs.Draws.{fateOf}
 use Rattle.nights.specs.Tests.{Answer}
 use Rattle.nights.specs.Journal.{Call, change, rewind, mark}
-use Rattle.nights.specs.Rule.{Entry, standing, Told, ran, logOf, Claim}
+use Rattle.nights.specs.Standing.{Entry, standing}
+use Rattle.nights.specs.Rule.{Told}
+use Rattle.nights.specs.Claim.{ran, logOf, Claim}
 use Rattle.network.specs.declared.Network.{Network}
-use Rattle.network.specs.Forms.{plainOf, isFormed}
+use Rattle.network.specs.Forms.{plainOf, structOf, isFormed}
 use Rattle.network.specs.Calls.{firstNetwork}
 use Rattle.journal_calls.specs.Calls.{stateOf, answerOf, wordsAfter, networkAfter, markAnswer, markWords}
 
@@ -70,7 +72,8 @@ module _ (o : Options) (rest : List ℕ) (ts : List Turn) where
   pub record Demand3 : Type 0 where
     -- the network is what the standing list says, by the rule that runs no queue
     pub told : Told fateOf o (standing (entriesOf ts)) (plainOf (morning .network))
-    -- it is well formed, so that every word of it is settled by its plain form
+    -- every word of it is settled by that, for it is the struct of its plain form; and it is well formed
+    pub whole : morning .network ≡ structOf (plainOf (morning .network))
     pub formed : isFormed (morning .network) ≡ true
     -- the answers and the words are those of the plain form's run, of which the claim holds: what a rewind gives back, how far it
     -- can go, that a mark stays, and what the journal holds

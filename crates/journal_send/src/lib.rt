@@ -22,9 +22,13 @@ pub fn send(
     extras: &[u64],
     journal: &mut [u64],
 ) -> Sent
-    ensures network { λ t. ⌜ t .network ≡ networkAfter (sends now sort origin to kind handle (draws .entry .now) (extras .entry .now)) network (journal .entry .now) ⌝ }
-    ensures answer { λ t. ⌜ sentOf (t .answer) ≡ sending (answerOf (sends now sort origin to kind handle (draws .entry .now) (extras .entry .now)) network (journal .entry .now)) (decided (plainOf network .options) now kind (draws .entry .now) (extras .entry .now)) ⌝ }
-    ensures journal { λ _. ⌜ journal .exit .now ≡ wordsAfter (sends now sort origin to kind handle (draws .entry .now) (extras .entry .now)) network (journal .entry .now) ⌝ }
+    ensures network { λ t. ⌜ t .network
+        ≡ networkAfter (sends now sort origin to kind handle (draws .entry .now) (extras .entry .now)) network (journal .entry .now) ⌝ }
+    ensures answer { λ t. ⌜ sentOf (t .answer)
+        ≡ sending (answerOf (sends now sort origin to kind handle (draws .entry .now) (extras .entry .now)) network (journal .entry .now))
+        (decided (plainOf network .options) now kind (draws .entry .now) (extras .entry .now)) ⌝ }
+    ensures journal { λ _. ⌜ journal .exit .now
+        ≡ wordsAfter (sends now sort origin to kind handle (draws .entry .now) (extras .entry .now)) network (journal .entry .now) ⌝ }
 {
     let sent = network.send(now, sort, origin, to, kind, handle, draws, extras);
     let answer = sent.answer;

@@ -22,8 +22,12 @@ const TAKE_ROOM: usize = network_queue::WORDS + journal_ledger::TAKE_WORDS;
 // room.
 pub fn take_due(network: Network, now: u64, out: &mut [u64], journal: &mut [u64]) -> Taken
     ensures network { λ t. ⌜ t .network ≡ networkAfter (takes now (length (out .entry .now))) network (journal .entry .now) ⌝ }
-    ensures answer { λ t. ⌜ countedOf (t .answer) ≡ counting (answerOf (takes now (length (out .entry .now))) network (journal .entry .now)) (length (keep (isDue now) (plainOf network .pending))) ⌝ }
-    ensures out { λ _. ⌜ out .exit .now ≡ written (answerOf (takes now (length (out .entry .now))) network (journal .entry .now)) (recordWords (keep (isDue now) (plainOf network .pending))) (out .entry .now) ⌝ }
+    ensures answer { λ t. ⌜ countedOf (t .answer)
+        ≡ counting (answerOf (takes now (length (out .entry .now))) network (journal .entry .now))
+        (length (keep (isDue now) (plainOf network .pending))) ⌝ }
+    ensures out { λ _. ⌜ out .exit .now
+        ≡ written (answerOf (takes now (length (out .entry .now))) network (journal .entry .now))
+        (recordWords (keep (isDue now) (plainOf network .pending))) (out .entry .now) ⌝ }
     ensures journal { λ _. ⌜ journal .exit .now ≡ wordsAfter (takes now (length (out .entry .now))) network (journal .entry .now) ⌝ }
 {
     let mut record = [0u64; TAKE_ROOM];

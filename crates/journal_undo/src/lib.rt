@@ -85,7 +85,8 @@ fn keep_front(w: &mut [u64; network_queue::WORDS], n: usize, last: u64) -> usize
 fn drop_above(w: &mut [u64; network_queue::WORDS], n: usize, last: u64) -> usize
     requires { ⌜ (length (now w) ≡ arraySize) × (n ≤ capacity) ⌝ }
     ensures count { λ m. ⌜ m ≡ length (keep (upTo last) (recs (now (w .entry)) 0 n)) ⌝ }
-    ensures words { λ m. ⌜ now (w .exit) ≡ recordWords (keep (upTo last) (recs (now (w .entry)) 0 n)) ++ (replicate ((n - m) * recordSize) 0 ++ drop (n * recordSize) (now (w .entry))) ⌝ }
+    ensures words { λ m. ⌜ now (w .exit) ≡ recordWords (keep (upTo last) (recs (now (w .entry)) 0 n))
+        ++ (replicate ((n - m) * recordSize) 0 ++ drop (n * recordSize) (now (w .entry))) ⌝ }
 {
     let m = keep_front(w, n, last);
     network_queue::clear(

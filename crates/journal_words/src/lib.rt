@@ -144,13 +144,17 @@ pub fn take_due(
     journal: &mut [u64],
     told: &mut [u64; 1],
 ) -> u64
-    ensures answer { λ r. ⌜ r ≡ answerCode (journalAnswer (takes now (length (out .entry .now))) (head .entry .now) (records .entry .now) (journal .entry .now)) ⌝ }
-    ensures head { λ _. ⌜ head .exit .now ≡ journalHead (takes now (length (out .entry .now))) (head .entry .now) (records .entry .now) (journal .entry .now) ⌝ }
-    ensures records { λ _. ⌜ records .exit .now ≡ journalRecords (takes now (length (out .entry .now))) (head .entry .now) (records .entry .now) (journal .entry .now) ⌝ }
+    ensures answer { λ r. ⌜ r ≡ answerCode (journalAnswer (takes now (length (out .entry .now))) (head .entry .now) (records .entry .now)
+        (journal .entry .now)) ⌝ }
+    ensures head { λ _. ⌜ head .exit .now
+        ≡ journalHead (takes now (length (out .entry .now))) (head .entry .now) (records .entry .now) (journal .entry .now) ⌝ }
+    ensures records { λ _. ⌜ records .exit .now
+        ≡ journalRecords (takes now (length (out .entry .now))) (head .entry .now) (records .entry .now) (journal .entry .now) ⌝ }
     ensures out { λ _. ⌜ out .exit .now
         ≡ written (journalAnswer (takes now (length (out .entry .now))) (head .entry .now) (records .entry .now) (journal .entry .now))
         (recordWords (keep (isDue now) (plainOf (networkIn (head .entry .now) (records .entry .now)) .pending))) (out .entry .now) ⌝ }
-    ensures journal { λ _. ⌜ journal .exit .now ≡ journalWords (takes now (length (out .entry .now))) (head .entry .now) (records .entry .now) (journal .entry .now) ⌝ }
+    ensures journal { λ _. ⌜ journal .exit .now
+        ≡ journalWords (takes now (length (out .entry .now))) (head .entry .now) (records .entry .now) (journal .entry .now) ⌝ }
     ensures told { λ _. ⌜ told .exit .now
         ≡ ifDone (journalAnswer (takes now (length (out .entry .now))) (head .entry .now) (records .entry .now) (journal .entry .now))
         (length (keep (isDue now) (plainOf (networkIn (head .entry .now) (records .entry .now)) .pending)) ∷ []) (told .entry .now) ⌝ }
@@ -197,9 +201,14 @@ pub fn set_options(
     flag: u64,
     journal: &mut [u64],
 ) -> u64
-    ensures answer { λ r. ⌜ r ≡ answerCode (journalAnswer (chooses (optionsFrom loss replay min mean flag)) (now (head .entry)) (now (records .entry)) (now (journal .entry))) ⌝ }
-    ensures head { λ _. ⌜ now (head .exit) ≡ journalHead (chooses (optionsFrom loss replay min mean flag)) (now (head .entry)) (now (records .entry)) (now (journal .entry)) ⌝ }
-    ensures journal { λ _. ⌜ now (journal .exit) ≡ journalWords (chooses (optionsFrom loss replay min mean flag)) (now (head .entry)) (now (records .entry)) (now (journal .entry)) ⌝ }
+    ensures answer { λ r. ⌜ r ≡ answerCode (journalAnswer (chooses (optionsFrom loss replay min mean flag)) (now (head .entry))
+        (now (records .entry)) (now (journal .entry))) ⌝ }
+    ensures head { λ _. ⌜ now (head .exit)
+        ≡ journalHead (chooses (optionsFrom loss replay min mean flag)) (now (head .entry)) (now (records .entry))
+        (now (journal .entry)) ⌝ }
+    ensures journal { λ _. ⌜ now (journal .exit)
+        ≡ journalWords (chooses (optionsFrom loss replay min mean flag)) (now (head .entry)) (now (records .entry))
+        (now (journal .entry)) ⌝ }
 {
     let loaded = network_layout::load(head);
     if !loaded.fits {

@@ -1,6 +1,6 @@
 -- What an answer says of the lent rows: a refusal leaves them, and a call that is done writes them. And the answer itself, out of what
 -- a send or a take inside tells. Assumes nothing.
-use mathlib.Core.Path.{_≡_, refl, sym, ap, _∙_}
+use mathlib.Core.Path.{_≡_, sym, ap, _∙_}
 use mathlib.Core.List.{List, [], _∷_}
 use mathlib.Core.Bool.{Bool, true, false}
 use Prim.Native.Nat.{ℕ}
@@ -16,6 +16,7 @@ use Rattle.network_send.proofs.Testing.{answer-of}
 use Rattle.network_take.specs.declared.Counted.{Counted}
 use Rattle.network_take.specs.declared.Counted.the-variants.{Records, Refused as Uncounted}
 use Rattle.network_take.specs.Takes.{Count, countedOf, counting}
+use Rattle.network_take.proofs.Once.{counting-of}
 use Rattle.network_layout.specs.Layout.{headFits, answerCode, ifHead}
 use Rattle.network_words.specs.Calls.{Rows, byAnswer, sendTold}
 use Rattle.network_layout.proofs.Heads.{no-head, a-head}
@@ -83,11 +84,6 @@ module _ (t : SendAnswer) (a : Answer) (d : Decided) (e : sentOf t ≡ sending a
         (sym (ap sentOf q) ∙ (e ∙ ap (λ (b : Answer). sending b d) sent-done))
 
 -- ---- and by what a take, a count or a list tells
-
-counting-of : (a : Answer) (n : ℕ) → counting a n .answer ≡ a
-unfolding counting
-counting-of done n = refl
-counting-of (refused k) n = refl
 
 module _ (t : Counted) (a : Answer) (n : ℕ) (e : countedOf t ≡ counting a n) where
   pub taken-refused : (r : Refusal) → t ≡ Uncounted r → a ≡ refused (refusalNumber r)

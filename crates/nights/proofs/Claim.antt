@@ -5,7 +5,7 @@ use mathlib.Core.List.{List, _∷_, _++_}
 use mathlib.Core.Bool.{true}
 use Rattle.nights.specs.Net.{Options, Draws, Change, goodOptions}
 use Rattle.nights.specs.Journal.{Call, mark}
-use Rattle.nights.specs.Rule.{reach, stack, stands, replay, recorded, Earlier, Claim}
+use Rattle.nights.specs.Claim.{reach, stack, stands, replay, recorded, Earlier, Claim}
 use Rattle.nights.specs.Draws.{fateOf}
 use Rattle.nights.proofs.Run.{the-numbers-are-counted, fold-of-standing, rewinds, no-further, mark-holds, the-journal-holds, size-stays}
 use Rattle.nights.proofs.Back.{earlier-time}

@@ -9,10 +9,11 @@ use lib.ListN.{length, length-append, length-map}
 use Rattle.nights.specs.Record.{Record}
 use Rattle.nights.specs.Net.{Options, Plain, keep, insertBy, insertAll, dues, Draws, Letter, copies, Change, send, collect, choose, goodOptions, rising}
 use Rattle.nights.specs.Journal.{Call}
-use Rattle.nights.specs.Rule.{ran, stack, stands, optionsBy, makes, Made, followed, made, waits, copyOf, from, seqOf, Exactly, replay}
+use Rattle.nights.specs.Rule.{optionsBy, makes, Made, followed, made, waits, from, seqOf, Exactly}
+use Rattle.nights.specs.Claim.{ran, stack, stands, replay}
 use Rattle.nights.proofs.Order.{precedes}
 use Rattle.nights.proofs.Good.{good-replay, fit-replay, rises-of}
-use Rattle.nights.proofs.Fold.{sortedCopies}
+use Rattle.nights.proofs.Fold.{copyOf, sortedCopies}
 use Rattle.nights.proofs.Run.{fold-of-standing, all-sound, the-pending-are-sorted}
 
 -- MEMBERS of an insertion, a filter and a map

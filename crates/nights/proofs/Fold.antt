@@ -7,7 +7,8 @@ use native.Mathlib.Omega.{arith}
 use lib.ListN.{length, length-append, length-map}
 use Rattle.nights.specs.Record.{Record}
 use Rattle.nights.specs.Net.{Options, Plain, fresh, keep, insertBy, insertAll, Fate, dues, lostBy, replayedBy, delayedBy, Draws, Letter, copies, Change, send, collect, choose, isLater, effect, goodOptions}
-use Rattle.nights.specs.Rule.{replay, optionsBy, optionsRule, fateBy, fates, total, makes, Made, followed, made, missedBy, untaken, waits, copyOf, deliveredRule, sentRule, lostRule, replayedRule, delayedRule, Counted}
+use Rattle.nights.specs.Rule.{optionsBy, optionsRule, fateBy, fates, total, makes, Made, followed, made, missedBy, untaken, waits, deliveredRule, sentRule, lostRule, replayedRule, delayedRule, Counted}
+use Rattle.nights.specs.Claim.{replay}
 use Rattle.nights.proofs.Order.{All, Ordered, Newer, all-insert, length-split, keep-keep, keep-all, ordered-insert, insertAll-append, length-insertAll, unseen, seen}
 use Rattle.nights.proofs.Good.{Numbered, Good, copyAt, raise, newer, length-copies, good-effect, good-fresh, good-replay, Sound, Fit, fit-replay}
 
@@ -103,6 +104,10 @@ all-true : (l : List Record) → All (λ (x : Record). untaken [] x ≡ true) l
 unfolding untaken
 all-true [] = tt
 all-true (x ∷ xs) = (refl, all-true xs)
+
+-- the copy alone of one that was made
+abbrev pub copyOf : Made → Record
+copyOf m = m .copy
 
 -- the copies of one call among all
 first-step : (b : Bool) (x : Made) (l : List Made) (m k : List Record) → map copyOf l ≡ m ++ k

@@ -15,7 +15,9 @@ use Rattle.nights.specs.Record.{Record, recordWords}
 use Rattle.nights.specs.Net.{Options, Plain, keep, Fate, dues, Draws, Letter, Change, send, collect, choose, isDue, effect, goodOptions, wellFormed}
 use Rattle.nights.specs.Tests.{Answer, done, refused, Test, verdict, sendTests, tests, ifDone}
 use Rattle.nights.specs.Journal.{Call, change, rewind, mark, State, Step, held, used, logged, goodHeader, undoWords, undone, undoAll, journalTests, journaled, doChange, rewound, doRewind, doMark, step}
-use Rattle.nights.specs.Rule.{start, run, log, strike, struck, reachBy, reached, reach, ran, stack, stands, replay, flat, recorded, Counted}
+use Rattle.nights.specs.Standing.{strike, struck, reachBy, reached}
+use Rattle.nights.specs.Rule.{Counted}
+use Rattle.nights.specs.Claim.{start, run, log, reach, ran, stack, stands, replay, flat, recorded}
 use Rattle.nights.proofs.Good.{PassedSend, Passed, Sound, well-formed-replay}
 use Rattle.nights.proofs.Fold.{sortedCopies, pending-sorted, counted}
 use Rattle.nights.proofs.Undo.{undo-many}

@@ -4,4 +4,6 @@ pub mod Net
 pub mod Draws
 pub mod Tests
 pub mod Journal
+pub mod Standing
 pub mod Rule
+pub mod Claim

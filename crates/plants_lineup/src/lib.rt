@@ -92,7 +92,9 @@ fn append(ids: &[u64], flags: &[u64], flag: u64, line: &mut [u64], at: usize) ->
     requires { ⌜ tally (leb (length (now flags))) (now ids) ≡ 0 ⌝ }
     requires { ⌜ at + tally (hasFlag (now flags) flag) (now ids) ≤ length (now line) ⌝ }
     ensures count { λ r. ⌜ r ≡ at + tally (hasFlag (now (flags .entry)) flag) (now (ids .entry)) ⌝ }
-    ensures line { λ r. ⌜ now (line .exit) ≡ take at (now (line .entry)) ++ (those (hasFlag (now (flags .entry)) flag) (now (ids .entry)) ++ drop (at + tally (hasFlag (now (flags .entry)) flag) (now (ids .entry))) (now (line .entry))) ⌝ }
+    ensures line { λ r. ⌜ now (line .exit) ≡ take at (now (line .entry))
+        ++ (those (hasFlag (now (flags .entry)) flag) (now (ids .entry))
+        ++ drop (at + tally (hasFlag (now (flags .entry)) flag) (now (ids .entry))) (now (line .entry))) ⌝ }
 {
     let mut count = at;
     let mut i: usize = 0;
@@ -120,7 +122,8 @@ fn deal(ids: &mut [u64], picks: &[u64])
 // Writes the healthy of the ids, then the recovering, each in their order.
 fn split(ids: &[u64], flags: &[u64], line: &mut [u64])
     requires { ⌜ (tally (leb (length (now flags))) (now ids) ≡ 0) × (recoveringFit (now flags) ≡ true) × (length (now line) ≡ length (now ids)) ⌝ }
-    ensures { λ _. ⌜ now (line .exit) ≡ those (isHealthy (now (flags .entry))) (now (ids .entry)) ++ those (isRecovering (now (flags .entry))) (now (ids .entry)) ⌝ }
+    ensures { λ _. ⌜ now (line .exit) ≡ those (isHealthy (now (flags .entry))) (now (ids .entry))
+        ++ those (isRecovering (now (flags .entry))) (now (ids .entry)) ⌝ }
 {
     let healthy = append(ids, flags, 0, line, 0);
     append(ids, flags, 1, line, healthy);
@@ -131,8 +134,10 @@ fn split(ids: &[u64], flags: &[u64], line: &mut [u64])
 fn arrange(ids: &[u64], flags: &[u64], picks: &[u64], line: &mut [u64])
     requires { ⌜ (tally (leb (length (now flags))) (now ids) ≡ 0) × (recoveringFit (now flags) ≡ true) × (length (now line) ≡ length (now ids)) ⌝ }
     requires { ⌜ (quorum (length (now ids)) ≤ tally (isHealthy (now flags)) (now ids)) × (quorum (length (now ids)) < length (now ids)) ⌝ }
-    requires { ⌜ (length (now ids) - quorum (length (now ids)) ≤ length (now picks) + 1) × (picksWithin (length (now ids) - quorum (length (now ids)) - 1) (now picks) ≡ true) ⌝ }
-    ensures { λ _. ⌜ now (line .exit) ≡ staying (length (now (ids .entry))) (now (flags .entry)) (now (ids .entry)) ++ shuffled (now (picks .entry)) (filler (length (now (ids .entry))) (now (flags .entry)) (now (ids .entry))) ⌝ }
+    requires { ⌜ (length (now ids) - quorum (length (now ids)) ≤ length (now picks) + 1)
+        × (picksWithin (length (now ids) - quorum (length (now ids)) - 1) (now picks) ≡ true) ⌝ }
+    ensures { λ _. ⌜ now (line .exit) ≡ staying (length (now (ids .entry))) (now (flags .entry)) (now (ids .entry))
+        ++ shuffled (now (picks .entry)) (filler (length (now (ids .entry))) (now (flags .entry)) (now (ids .entry))) ⌝ }
 {
     split(ids, flags, line);
     let start = basis::quorum(ids.len());

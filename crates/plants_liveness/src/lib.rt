@@ -122,7 +122,8 @@ fn members(ids: &[u64]) -> [bool; 15]
 
 // Which plants are in the core that the picks choose.
 fn in_core(n: usize, recovering: &[u64], picks: &[u64], full: bool) -> [bool; 15]
-    requires { ⌜ (3 ≤ n) × (n ≤ 15) × (length (now recovering) ≡ n) × (recoveringFit (now recovering) ≡ true) × (quorum n ≤ healthyCount n (now recovering)) ⌝ }
+    requires { ⌜ (3 ≤ n) × (n ≤ 15) × (length (now recovering) ≡ n) × (recoveringFit (now recovering) ≡ true)
+        × (quorum n ≤ healthyCount n (now recovering)) ⌝ }
     requires { ⌜ (picksUsed n full ≤ length (now picks)) × (picksInRange n (now picks) full ≡ true) ⌝ }
     ensures { λ r. ⌜ r ≡ upAfter (coreOf n (now (recovering .entry)) (now (picks .entry)) full) ⌝ }
 {

@@ -56,7 +56,8 @@ pub fn convergence(
 ) -> Answer
     requires { ⌜ Snapshot n (now plants) (now logs) × (length (now values) ≡ n) × (0 < length (now core)) ⌝ }
     requires { ⌜ ((k : ℕ) → k < length (now core) → getD (now core) k 0 < n) ⌝ }
-    ensures { λ a. ⌜ a ≡ converged (clusterIn n (now (plants .entry)) (now (logs .entry)) (now (tracker .entry))) (now (values .entry)) (now (core .entry)) ⌝ }
+    ensures { λ a. ⌜ a ≡ converged (clusterIn n (now (plants .entry)) (now (logs .entry)) (now (tracker .entry))) (now (values .entry))
+        (now (core .entry)) ⌝ }
 {
     let reference = properties_snapshots::number(core, 0);
     let mut k: usize = 0; // the first one too, for its commit
@@ -81,7 +82,8 @@ fn converged_with(
     id: usize,
 ) -> Answer
     requires { ⌜ Snapshot n (now plants) (now logs) × (length (now values) ≡ n) × (reference < n) × (id < n) ⌝ }
-    ensures { λ a. ⌜ ((t : List ℕ) → a ≡ convergedWith (clusterIn n (now (plants .entry)) (now (logs .entry)) t) (now (values .entry)) reference id) ⌝ }
+    ensures { λ a. ⌜ ((t : List ℕ) → a
+        ≡ convergedWith (clusterIn n (now (plants .entry)) (now (logs .entry)) t) (now (values .entry)) reference id) ⌝ }
 {
     let size = properties_snapshots::size_of(plants, id);
     if size != properties_snapshots::size_of(plants, reference) {
@@ -112,7 +114,8 @@ fn same_value(a: i64, b: i64) -> bool
 // The first entry, of the first `size`, in which a plant's log is not the reference's.
 fn same_logs(n: usize, logs: &[u64], reference: usize, id: usize, size: usize) -> Answer
     requires { ⌜ (n ≤ most) × (length (now logs) ≡ n * logWords) × (reference < n) × (id < n) × (size ≤ logEntries) ⌝ }
-    ensures { λ a. ⌜ a ≡ firstOf (λ i. atEntry Property.Convergence id i 2 (sameEntry (entryIn (now (logs .entry)) (entryAt id i)) (entryIn (now (logs .entry)) (entryAt reference i)))) 0 size ⌝ }
+    ensures { λ a. ⌜ a ≡ firstOf (λ i. atEntry Property.Convergence id i 2
+        (sameEntry (entryIn (now (logs .entry)) (entryAt id i)) (entryIn (now (logs .entry)) (entryAt reference i)))) 0 size ⌝ }
 {
     let mut i: usize = 0;
     while i < size {

@@ -96,7 +96,8 @@ fn stray_line(text: &[u8]) -> usize
 fn read_line(line: &[u8], held: &mut [u64], found: usize, room: usize) -> Judged
     requires { ⌜ 3 * (found + length (lineEvents (lineSays (now line)))) ≤ length (now held) ⌝ }
     ensures answer { λ r. ⌜ r ≡ judgedLine room found (lineSays (now (line .entry))) ⌝ }
-    ensures words { λ r. ⌜ ((next : ℕ) → r ≡ Judged.Found next → now (held .exit) ≡ laid (now (held .entry)) (3 * found) (eventWords (lineEvents (lineSays (now (line .entry)))))) ⌝ }
+    ensures words { λ r. ⌜ ((next : ℕ) → r ≡ Judged.Found next → now (held .exit)
+        ≡ laid (now (held .entry)) (3 * found) (eventWords (lineEvents (lineSays (now (line .entry)))))) ⌝ }
 {
     match line::parse_line(line) {
         Line::Blank => Judged::Found(found),
@@ -109,7 +110,8 @@ fn read_line(line: &[u8], held: &mut [u64], found: usize, room: usize) -> Judged
 fn take_event(held: &mut [u64], found: usize, room: usize, tick: u64, fault: Fault) -> Judged
     requires { ⌜ 3 * (found + 1) ≤ length (now held) ⌝ }
     ensures answer { λ r. ⌜ r ≡ judgedLine room found (Line.Event tick fault) ⌝ }
-    ensures words { λ r. ⌜ ((next : ℕ) → r ≡ Judged.Found next → now (held .exit) ≡ laid (now (held .entry)) (3 * found) (eventWords (lineEvents (Line.Event tick fault)))) ⌝ }
+    ensures words { λ r. ⌜ ((next : ℕ) → r ≡ Judged.Found next → now (held .exit)
+        ≡ laid (now (held .entry)) (3 * found) (eventWords (lineEvents (Line.Event tick fault)))) ⌝ }
 {
     if found < room {
         Judged::Found(put_event(held, found, tick, fault))
@@ -136,7 +138,8 @@ fn put_event(events: &mut [u64], count: usize, tick: u64, fault: Fault) -> usize
 fn read_lines(text: &[u8], held: &mut [u64], room: usize) -> Script
     requires { ⌜ (length (now text) ≤ longest) × (heldWords (length (now text)) ≤ length (now held)) ⌝ }
     ensures answer { λ r. ⌜ r ≡ linesJudged room 1 0 (said (now (text .entry))) ⌝ }
-    ensures words { λ r. ⌜ ((n : ℕ) → r ≡ Script.Events n → now (held .exit) ≡ laid (now (held .entry)) 0 (eventWords (eventsOf (said (now (text .entry)))))) ⌝ }
+    ensures words { λ r. ⌜ ((n : ℕ) → r ≡ Script.Events n → now (held .exit)
+        ≡ laid (now (held .entry)) 0 (eventWords (eventsOf (said (now (text .entry)))))) ⌝ }
 {
     let mut found: usize = 0;
     let mut line: usize = 1;

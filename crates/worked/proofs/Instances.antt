@@ -13,7 +13,9 @@ use Rattle.nights.specs.Net
 use Rattle.nights.specs.Net.{Change, send, keep, every, earlier, insertBy, insertAll, dues, lostBy, replayedBy, delayedBy, copies, effect, goodOptions, goodRecord, ahead, rising, goodCounts, wellFormed}
 use Rattle.nights.specs.Tests.{done, refused, verdict, tests, ifDone}
 use Rattle.nights.specs.Journal.{Call, change, rewind, mark, held, used, logged, goodHeader, undoWords, undoAs, undoOne, checked, further, undoAll, doChange, rewound, doRewind, doMark, step}
-use Rattle.nights.specs.Rule.{run, log, strike, struck, stands, reach, reachBy, reached, stack, replay, flat, recorded, optionsBy, fateBy, fates, makes, made, Made, missedBy, untaken, waits, from, Exactly, Told, Claim}
+use Rattle.nights.specs.Standing.{strike, struck, reachBy, reached}
+use Rattle.nights.specs.Rule.{optionsBy, fateBy, fates, makes, made, Made, missedBy, untaken, waits, from, Exactly, Told}
+use Rattle.nights.specs.Claim.{run, log, stands, reach, stack, replay, flat, recorded, Claim}
 use Rattle.chance.specs.Probability.{goodWord, isOne, isZero, thresholdOf}
 use Rattle.chance.specs.Draw.{byWord, genBool, genBoolInSend}
 use Rattle.nights.specs.Draws.{isFaulted, extrasFor, extraAt, dueAt, isTick, isLate, alone as aloneOf, both, afterReplay, afterLoss, decided, fateOf}

@@ -10,7 +10,10 @@ use Rattle.nights.specs.Record.{Record, recordWords, recs}
 use Rattle.nights.specs.Net.{Options, Letter, twice, send, choose, fresh, keep, every, earlier, insertBy, insertAll, dues, lostBy, replayedBy, delayedBy, copies, effect, goodOptions, goodRecord, ahead, rising, goodCounts, wellFormed}
 use Rattle.nights.specs.Journal.{State, Call, change, rewind, mark, held, used, logged, goodHeader, undoWords, undoAs, undoOne, checked, further, undoAll, doChange, rewound, doRewind, doMark, step}
 use Rattle.nights.specs.Tests.{Answer, done, refused, verdict, tests, ifDone}
-use Rattle.nights.specs.Rule.{run, log, Entry, strike, struck, logOf, stands, reach, reachBy, reached, optionsBy, optionsRule, fateBy, fates, total, makes, made, missedBy, untaken, copyOf, waits, deliveredRule, sentRule, lostRule, replayedRule, delayedRule}
+use Rattle.nights.specs.Standing.{Entry, strike, struck, reachBy, reached}
+use Rattle.nights.specs.Rule.{optionsBy, optionsRule, fateBy, fates, total, makes, made, missedBy, untaken, waits, deliveredRule, sentRule, lostRule, replayedRule, delayedRule}
+use Rattle.nights.specs.Claim.{run, log, logOf, stands, reach}
+use Rattle.nights.proofs.Fold.{copyOf}
 use Rattle.chance.specs.Probability.{goodWord, isOne, isZero, thresholdOf}
 use Rattle.chance.specs.Draw.{byWord, genBool, genBoolInSend}
 use Rattle.nights.specs.Draws.{isFaulted, extrasFor, extraAt, dueAt, isTick, isLate, alone as aloneOf, both, afterReplay, afterLoss, decided, fateOf}

@@ -16,7 +16,7 @@ use Rattle.nights.specs.Net.{keep, every, earlier, insertBy, insertAll, dues, l
 use Rattle.nights.specs.Draws.{isFaulted, extrasFor, extraAt, dueAt, isTick, isLate, alone, both, afterReplay, afterLoss, decided}
 use Rattle.nights.specs.Journal.{logged, goodHeader, undoWords, undoAs, undoOne, checked, further, undoAll, doChange, rewound, doRewind, doMark, step}
 use Rattle.nights.specs.Tests.{verdict, tests, ifDone}
-use Rattle.nights.specs.Rule.{run}
+use Rattle.nights.specs.Claim.{run}
 use Rattle.worked.specs.Table.{Worked}
 
 pub worked : Worked

@@ -21,7 +21,7 @@ use Rattle.nights.specs.Net.{Options, Letter, keep, isDue}
 use Rattle.nights.specs.Net
 use Rattle.nights.specs.Draws.{fateOf, decided}
 use Rattle.nights.specs.Journal.{Call, change, rewind, State, held, used}
-use Rattle.nights.specs.Rule.{ran}
+use Rattle.nights.specs.Claim.{ran}
 
 -- ---- what the rows speak of
 
