@@ -13,6 +13,7 @@ mod bodies;
 mod journal;
 mod network;
 mod plants;
+mod posted;
 mod properties;
 #[allow(unsafe_code)]
 pub mod raw;
