@@ -87,6 +87,7 @@ impl NetworkOptions {
     /// let fate = options.fate(10, Kind::Prepare as u64, &[], &[5]).unwrap();
     /// assert_eq!((fate.copy, fate.original, fate.extras), (None, Some(17), 1));
     /// ```
+    #[inline]
     pub fn fate(
         &self,
         now: u64,
@@ -107,6 +108,7 @@ impl NetworkOptions {
         Ok(Fate::told(told))
     }
 
+    #[inline]
     pub(crate) fn words(&self) -> (u64, u64, u64, u64, u64) {
         (
             self.packet_loss_probability.to_bits(),
@@ -174,6 +176,7 @@ pub struct Fate {
 }
 
 impl Fate {
+    #[inline]
     fn told(words: [u64; raw::FATE_WORDS]) -> Fate {
         let [lost, replayed, draws, extras, copy, original] = words;
         Fate {
@@ -185,6 +188,7 @@ impl Fate {
     }
 
     /// What a send of such a message tells.
+    #[inline]
     pub fn sent(&self) -> Sent {
         Sent {
             lost: self.original.is_none(),
@@ -370,7 +374,8 @@ impl<M: Clone> Network<M> {
         draws: &[u64],
         extras: &[u64],
     ) -> Result<Sent, Refusal> {
-        if self.posted.is_full() || self.summary().sent >= SENT_LIMIT {
+        let sent = self.words.head()[head::SENT] + self.posted.count();
+        if self.posted.is_full() || sent >= SENT_LIMIT {
             self.queue();
             return self.words.send(message, draws, extras);
         }

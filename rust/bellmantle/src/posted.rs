@@ -5,7 +5,7 @@ use crate::raw::MESSAGE_WORDS;
 use crate::Words;
 
 /// How many messages are posted at most. Lost ones are no copies, so that their number needs a limit of its own.
-pub(crate) const MOST: usize = 128;
+const MOST: u64 = 128;
 
 /// Posted messages, in the order of sending, as a tick is lent them.
 #[derive(Default)]
@@ -22,11 +22,16 @@ pub(crate) struct Posted {
 
 impl Posted {
     pub(crate) fn is_empty(&self) -> bool {
-        self.sends.is_empty()
+        self.counts.sent == 0
     }
 
     pub(crate) fn is_full(&self) -> bool {
-        self.sends.len() == MOST * MESSAGE_WORDS
+        self.counts.sent == MOST
+    }
+
+    /// How many messages they are.
+    pub(crate) fn count(&self) -> u64 {
+        self.counts.sent
     }
 
     /// How many copies they are.

@@ -229,6 +229,7 @@ pub fn network_send(
 
 /// What becomes of a message of a kind that is sent at tick `now` under these options, with no network: 20, 21, 22, 24, 26, 27, 28.
 /// Told: whether it is lost, whether it is replayed, the draws and extras used, when the copy and when the original is due.
+#[inline]
 pub fn fate(
     options: [u64; 5],
     now: u64,
