@@ -392,7 +392,8 @@ impl<M: Clone> Network<M> {
 
     /// Takes every message due at tick `now`, in delivery order.
     pub fn take_due(&mut self, now: u64) -> Result<Vec<Envelope<M>>, Refusal> {
-        if self.next_due().map_or(true, |due| due > now) {
+        let is_due = self.next_due().is_some_and(|due| due <= now);
+        if !is_due {
             return Ok(Vec::new());
         }
         let taken = self.take(now)?;
