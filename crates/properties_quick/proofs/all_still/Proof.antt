@@ -2,19 +2,12 @@
 use borrow.Author.Needs.{needs}
 use borrow.Author.Tests.{not-false}
 use native.Mathlib.Omega.{arith}
-use native.Mathlib.Decide.{decLt}
 use mathlib.Core.Bool.{false≢true}
-use mathlib.Core.List.{List}
-use mathlib.Core.Path.{_≡_, subst}
-use Prim.Native.Nat.{ℕ, _+_, _-_, _≤_, _<_}
+use Prim.Native.Nat.{ℕ, _-_, _≤_, _<_}
+use Rattle.properties_snapshots.proofs.Below.{below-more}
 use Rattle.properties_quick.specs.Quick.{Still}
 use Rattle.properties_quick.proofs.all_still.Statement.{statement}
 use Rattle.properties_quick.proofs.all_still.Tie as tie
-
--- one plant more
-more : (p t : List ℕ) (r : ℕ) → ((k : ℕ) → k < r → Still p t k) → Still p t r → (k : ℕ) → k < r + 1 → Still p t k
-more p t r passed this k h =
-    elim (decLt k r) [ yes g ↦ passed k g | no g ↦ let z : r ≡ k = omega arith in subst (Still p t) z this ]
 
 abbrev Inv-loop : tie.InvT-loop
 Inv-loop n plants tracker r₀ r = (r ≤ n) × ((k : ℕ) → k < r → Still plants tracker k)
@@ -41,7 +34,7 @@ loop-again : tie.Need-loop-again Inv-loop μ-loop
 loop-again c =
     let a = c .before .before .before .before .before .before .args in
     let loop = c .before .before .before .loop in
-    (omega arith, more (a .plants .now) (a .tracker .now) (loop .r) (loop .inv .1) (c .before .still .ensures (not-false _ (c .if1 .left))))
+    (omega arith, below-more (Still (a .plants .now) (a .tracker .now)) (loop .r) (loop .inv .1) (c .before .still .ensures (not-false _ (c .if1 .left))))
 
 returns-2 : tie.Need-returns-2 Inv-loop μ-loop
 returns-2 c = λ e k h. c .before .loop .inv .1 k (omega arith)
