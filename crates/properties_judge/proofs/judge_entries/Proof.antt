@@ -44,15 +44,17 @@ returns-2 c =
     (the-duplicates .ensures ∙ e)))
     ∙ rw (sym (the-entries .ensures) ∙ c .before .before .enum-told .given .1))
 
-entries-requires-2 : tie.Need-entries-requires-2
-entries-requires-2 c κs = search needs
+durability-requires : tie.Need-durability-requires
+durability-requires c κs =
+    let the-entries = c .before .before .before .before .before .entries in
+    (c .before .before .before .before .before .before .before .before .before .before .pre, (c .before .before .before .before .before .before .needed-copies .ensures, sym (the-entries .ensures) ∙ c .before .before .before .enum-told .given .1))
 
 returns-3 : tie.Need-returns-3
 unfolding judgedEntries
 returns-3 c =
     let the-entries = c .before .before .before .before .before .before .entries in
     let the-enum-told = c .before .before .before .before .enum-told in
-    c .entries2 .ensures ∙ rw (
+    c .durability .ensures ∙ rw (
       sym (the-entries .ensures) ∙ the-enum-told .given .1,
       sym (c .before .before .before .duplicates .ensures) ∙
           c .before .enum-told2 .given .1,
@@ -69,5 +71,5 @@ judge-entries-spec =
     duplicates-requires
     enum-told-2
     returns-2
-    entries-requires-2
+    durability-requires
     returns-3)
