@@ -36,19 +36,21 @@ fn known_below(i: usize, last: usize) -> usize
     last
 }
 
-// The tracker's ids, so many of them from `at` on, all differ from an id.
+// The tracker's ids, so many of them from `at` on, all differ from an id. All are looked at, which lets a compiler compare several
+// at a time: that they do is the common case.
 fn none_seen(tracker: &[u64], at: usize, count: usize, id: u64) -> bool
-    requires { ⌜ (at + count ≤ length (now tracker)) ⌝ }
+    requires { ⌜ at + count ≤ length (now tracker) ⌝ }
     ensures { λ b. ⌜ b ≡ allBelow count (λ j. not (eqb (getD (now (tracker .entry)) (at + j) 0) id)) ⌝ }
 {
+    let mut other = true;
     let mut j: usize = 0;
     while j < count {
         if tracker[at + j] == id {
-            return false;
+            other = false;
         }
         j += 1;
     }
-    true
+    other
 }
 
 // The ids of a plant's log from one index up to another all differ from an id.

@@ -2,11 +2,11 @@
 -- since no entry is asked. Assumes nothing.
 use borrow.Author.Tests.{le-leb, eq-eqb}
 use native.Mathlib.Omega.{arith}
-use mathlib.Core.Bool.{Bool, true, _&&_}
+use mathlib.Core.Bool.{true, _&&_}
 use mathlib.Core.List.{List}
-use mathlib.Core.Path.{_≡_, sym, ap, _∙_}
+use mathlib.Core.Path.{_≡_}
 use Prim.Native.Nat.{ℕ, _*_, _≤_, _<_}
-use lib.Dec.{leb, eqb}
+use lib.Dec.{leb}
 use lib.ListN.{length, getD}
 use Rattle.basis.specs.Basis.{plantCount}
 use Rattle.properties_snapshots.specs.Cluster.{Cluster, plant, last, clusterIn}

@@ -45,6 +45,10 @@ pub below-more : (P : ℕ → Type 0) (n : ℕ) → ((k : ℕ) → k < n → P k
 below-more P n passed this k h =
     elim (decLt k n) [ yes g ↦ passed k g | no g ↦ let z : n ≡ k = omega arith in subst P z this ]
 
+yes-side : (x : Bool) → x && true ≡ x
+yes-side true = refl
+yes-side false = refl
+
 pub all-none : (h : ℕ → Bool) → allBelow 0 h ≡ true
 unfolding allBelow
 all-none h = refl
@@ -52,6 +56,10 @@ all-none h = refl
 pub all-more : (n : ℕ) (h : ℕ → Bool) → allBelow n h ≡ true → h n ≡ true → allBelow (n + 1) h ≡ true
 unfolding allBelow
 all-more n h e f = rw (add-one, e, f)
+
+pub all-kept : (n : ℕ) (h : ℕ → Bool) → h n ≡ true → allBelow (n + 1) h ≡ allBelow n h
+unfolding allBelow
+all-kept n h e = rw (add-one, e) (yes-side (allBelow n h))
 
 pub all-true : (n : ℕ) (h : ℕ → Bool) → allBelow n h ≡ true → (k : ℕ) → k < n → h k ≡ true
 unfolding allBelow
@@ -89,10 +97,6 @@ all-same (suc n) f g h = rw (all-same n f g (λ k l. h k (omega arith)), h n (om
 pub all-split : (a b : ℕ) (h : ℕ → Bool) → allBelow (a + b) h ≡ allBelow a h && allBelow b (λ k. h (a + k))
 unfolding allBelow
 all-split a zero h = rw add-zero (sym (yes-side (allBelow a h)))
-  where
-    yes-side : (x : Bool) → x && true ≡ x
-    yes-side true = refl
-    yes-side false = refl
 all-split a (suc b) h =
     let z : a + suc b ≡ suc (a + b) = omega arith in
     rw (z, allBelow, all-split a b h) (grouped (allBelow a h) (allBelow b (λ k. h (a + k))) (h (a + b)))

@@ -5,11 +5,10 @@ use native.Mathlib.Omega.{arith}
 use mathlib.Core.Bool.{false}
 use mathlib.Core.List.{List}
 use mathlib.Core.Path.{_≡_, sym, ap, _∙_}
-use Prim.Native.Nat.{ℕ, _+_, _*_, _≤_, _<_}
+use Prim.Native.Nat.{ℕ, _≤_, _<_}
 use lib.ListN.{getD}
 use Rattle.properties_snapshots.specs.Cluster.{LogEntry, sameEntry, entryIn, clusterIn}
-use Rattle.properties_snapshots.specs.Layout.{entryWords, logWords, recoveringAt, sizeAt, entryAt}
-use Rattle.properties_snapshots.specs.Shape.{Snapshot}
+use Rattle.properties_snapshots.specs.Layout.{recoveringAt, sizeAt, entryAt}
 use Rattle.properties_snapshots.proofs.Held.{recovering-held, size-held, entry-held}
 use Rattle.properties_durability.specs.Durability.{holdsCopy}
 use Rattle.properties_durability.proofs.holds_copy.Statement.{statement}

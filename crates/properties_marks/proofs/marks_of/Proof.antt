@@ -1,5 +1,4 @@
 -- `properties_marks::marks_of` meets its contract. The loop's invariant: the ids passed are marked. Assumes nothing.
-use borrow.Author.Needs.{needs}
 use native.Mathlib.Omega.{arith}
 use mathlib.Core.List.{List}
 use mathlib.Core.Path.{_≡_, ap, subst, _∙_}
