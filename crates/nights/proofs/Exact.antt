@@ -57,12 +57,12 @@ unfolding insertBy
 of-insert y r [] p = cases-cons p
 of-insert y r (x ∷ xs) p = of-insert-step (precedes x r) y r x xs (insertBy r xs) p (λ (q : Member y (insertBy r xs)). of-insert y r xs q)
 
-old-insertAll : (y : Record) (rs l : List Record) → Member y l → Member y (insertAll rs l)
+pub old-insertAll : (y : Record) (rs l : List Record) → Member y l → Member y (insertAll rs l)
 unfolding insertAll
 old-insertAll y [] l p = p
 old-insertAll y (r ∷ rs) l p = old-insertAll y rs (insertBy r l) (old-insert y r l p)
 
-in-insertAll : (y : Record) (rs l : List Record) → Member y rs → Member y (insertAll rs l)
+pub in-insertAll : (y : Record) (rs l : List Record) → Member y rs → Member y (insertAll rs l)
 unfolding insertAll
 in-insertAll y [] l p = absurd (not-nil p)
 in-insertAll y (r ∷ rs) l p = go (cases-cons p) (λ (q : Member y rs). in-insertAll y rs (insertBy r l) q)
@@ -71,7 +71,7 @@ in-insertAll y (r ∷ rs) l p = go (cases-cons p) (λ (q : Member y rs). in-inse
     go (inl e) f = old-insertAll y rs (insertBy r l) (cast e (in-insert r l))
     go (inr q) f = f q
 
-of-insertAll : (y : Record) (rs l : List Record) → Member y (insertAll rs l) → Member y rs ⊎ Member y l
+pub of-insertAll : (y : Record) (rs l : List Record) → Member y (insertAll rs l) → Member y rs ⊎ Member y l
 unfolding insertAll
 of-insertAll y [] l p = inr p
 of-insertAll y (r ∷ rs) l p = go (of-insertAll y rs (insertBy r l) p)
