@@ -129,6 +129,24 @@ uint64_t bellmantle_network_send(uint64_t head[12], uint64_t records[1024], uint
                                  uint64_t kind, uint64_t handle, const uint64_t *draws, size_t draws_len, const uint64_t *extras,
                                  size_t extras_len, uint64_t told[4]);
 
+/* What bellmantle_fate tells: whether the message is lost (0 or 1), whether it is replayed, how many draws and how many extras are used,
+ * from each list's front, and the ticks at which the copy and the original are due, each 0 where there is none. */
+enum bellmantle_fate_told {
+    BELLMANTLE_FATE_LOST = 0,
+    BELLMANTLE_FATE_REPLAYED = 1,
+    BELLMANTLE_FATE_DRAWS = 2,
+    BELLMANTLE_FATE_EXTRAS = 3,
+    BELLMANTLE_FATE_COPY_DUE = 4,
+    BELLMANTLE_FATE_ORIGINAL_DUE = 5,
+    BELLMANTLE_FATE_WORDS = 6
+};
+
+/* What becomes of a message of a kind that is sent at tick `now` under these options, with no network at hand: 20, 21, 22, 24, 26, 27, 28.
+ * A send of such a message on a network with these options decides the same. */
+uint64_t bellmantle_fate(uint64_t loss_bits, uint64_t replay_bits, uint64_t min, uint64_t mean, uint64_t flag, uint64_t now,
+                         uint64_t kind, const uint64_t *draws, size_t draws_len, const uint64_t *extras, size_t extras_len,
+                         uint64_t told[6]);
+
 /* Takes every message due at tick `now` to the front of the output, in the order of delivery: 23, 30. Told: how many. */
 uint64_t bellmantle_network_take_due(uint64_t head[12], uint64_t records[1024], uint64_t now, uint64_t *out, size_t out_len,
                                      uint64_t told[1]);

@@ -3,7 +3,7 @@
 
 use bellmantle::raw;
 use std::borrow::Cow;
-use Row::{Core, Events, Head, Journal, Out, Plants, Records, Told1, Told3, Told4, Tracker};
+use Row::{Core, Events, Head, Journal, Out, Plants, Records, Told1, Told3, Told4, Told6, Tracker};
 
 /// The rows that calls are lent. A call is lent the front of a row, or all of it where its length is fixed.
 #[derive(Clone, Copy, Debug, PartialEq, Eq, PartialOrd, Ord)]
@@ -31,10 +31,11 @@ pub enum Row {
     Values,
     Ids,
     Tracker,
+    Told6,
 }
 
 /// Every row, by its number in a list of calls, with its words.
-pub const ROWS: [(Row, usize); 21] = [
+pub const ROWS: [(Row, usize); 22] = [
     (Row::Text, 65_600),
     (Row::Events, 6_200),
     (Row::Head, raw::HEAD_WORDS),
@@ -56,6 +57,7 @@ pub const ROWS: [(Row, usize); 21] = [
     (Row::Values, 20),
     (Row::Ids, 20),
     (Row::Tracker, 2_460),
+    (Row::Told6, raw::FATE_WORDS),
 ];
 
 impl Row {
@@ -64,7 +66,7 @@ impl Row {
     }
 }
 
-/// The calls, in the header's order.
+/// The calls, by their numbers in a list of calls: the header's order, and behind them the fate, which was added later.
 #[derive(Clone, Copy, Debug, PartialEq, Eq, PartialOrd, Ord)]
 pub enum Call {
     ParseScript,
@@ -88,6 +90,7 @@ pub enum Call {
     PropertiesReboot,
     PropertiesTick,
     PropertiesEnd,
+    Fate,
 }
 
 /// A call's name, the names of its numbers, and the rows that it may write.
@@ -111,7 +114,7 @@ const fn shape(
 
 const OPTIONS: &[&str] = &["loss", "replay", "min", "mean", "flag"];
 
-const SHAPES: [Shape; 21] = [
+const SHAPES: [Shape; 22] = [
     shape("parse_script", &["text_len", "events_len"], &[Events]),
     shape("network_new", OPTIONS, &[Head, Records]),
     shape("network_set_options", OPTIONS, &[Head]),
@@ -202,6 +205,21 @@ const SHAPES: [Shape; 21] = [
             "tracker_len",
         ],
         &[Told4],
+    ),
+    shape(
+        "fate",
+        &[
+            "loss",
+            "replay",
+            "min",
+            "mean",
+            "flag",
+            "now",
+            "kind",
+            "draws_len",
+            "extras_len",
+        ],
+        &[Told6],
     ),
 ];
 

@@ -49,12 +49,14 @@ pub enum Told {
     /// The words that a list of records is written to, and how many they are.
     Listed(Vec<u64>),
     Count(u64),
+    /// Whether it is lost, whether it is replayed, draws and extras used, the copy's due tick and the original's.
+    Fate([u64; 6]),
 }
 
 /// A case on a network, with what it tells or the number of its refusal.
 pub fn case(call: Call, numbers: &[u64], answer: Result<Told, u64>) -> Case {
     let mut case = Case::new(call, numbers, answer.as_ref().err().copied().unwrap_or(0));
-    for row in [Row::Told1, Row::Told4, Row::Out] {
+    for row in [Row::Told1, Row::Told4, Row::Told6, Row::Out] {
         if call.writes().contains(&row) {
             case = case.filled(row, PATTERN);
         }
@@ -63,6 +65,7 @@ pub fn case(call: Call, numbers: &[u64], answer: Result<Told, u64>) -> Case {
         Err(number) => case.meets(format!("refusal {number}")),
         Ok(Told::Nothing) => case,
         Ok(Told::Sent(words)) => case.expects(Row::Told4, 0, &words),
+        Ok(Told::Fate(words)) => case.expects(Row::Told6, 0, &words),
         Ok(Told::Count(count)) => case.expects(Row::Told1, 0, &[count]),
         Ok(Told::Listed(words)) => {
             let count = words.len() as u64 / 8;

@@ -1,7 +1,7 @@
 //! The rows, and a call run on them through `bellmantle::raw`.
 
 use crate::case::{Call, Case, Row, Words};
-use bellmantle::raw::{self, CORE_WORDS, HEAD_WORDS, PLANTS_WORDS, RECORDS_WORDS};
+use bellmantle::raw::{self, CORE_WORDS, FATE_WORDS, HEAD_WORDS, PLANTS_WORDS, RECORDS_WORDS};
 
 /// A row of each sort.
 #[derive(Clone)]
@@ -27,6 +27,7 @@ pub struct Rows {
     values: Vec<u64>,
     ids: Vec<u64>,
     tracker: Vec<u64>,
+    told6: [u64; FATE_WORDS],
 }
 
 impl Rows {
@@ -55,6 +56,7 @@ impl Rows {
             values: row(Row::Values),
             ids: row(Row::Ids),
             tracker: row(Row::Tracker),
+            told6: [0; FATE_WORDS],
         }
     }
 
@@ -81,6 +83,7 @@ impl Rows {
             Row::Values => &self.values,
             Row::Ids => &self.ids,
             Row::Tracker => &self.tracker,
+            Row::Told6 => &self.told6,
         }
     }
 
@@ -107,6 +110,7 @@ impl Rows {
             Row::Values => &mut self.values,
             Row::Ids => &mut self.ids,
             Row::Tracker => &mut self.tracker,
+            Row::Told6 => &mut self.told6,
         }
     }
 
@@ -139,6 +143,7 @@ impl Rows {
             values,
             ids,
             tracker,
+            told6,
         } = self;
         let n = |place: usize| case.numbers[place];
         let len = |place: usize| case.numbers[place] as usize;
@@ -238,6 +243,14 @@ impl Rows {
                     told4,
                 )
             }
+            Call::Fate => raw::fate(
+                [n(0), n(1), n(2), n(3), n(4)],
+                n(5),
+                n(6),
+                &draws[..len(7)],
+                &extras[..len(8)],
+                told6,
+            ),
         }
     }
 }

@@ -204,6 +204,7 @@ fn wrongs(call: Call) -> Vec<Wrong> {
             Row::Told1 => vec![0],
             // The words that tell how a call ended are left, so that it is counted alike whichever row is looked at.
             Row::Told3 | Row::Told4 => vec![2],
+            Row::Told6 => vec![2, row.words() - 1],
             Row::Core => vec![2, row.words() - 1],
             _ => vec![0, row.words() - 1],
         };

@@ -1,6 +1,8 @@
 //! Random runs. Most calls are within the rules; some break one of them.
 
+use crate::fates;
 use crate::run::{Run, Sending, SENT_LIMIT};
+use calls::case::Case;
 use calls::draws::Draws;
 use calls::nets::{
     any_number, bad_probability, draw, first_tick, ill_formed, next_tick, options,
@@ -34,7 +36,7 @@ fn set_options(run: &mut Run, draws: &mut Draws) {
 }
 
 fn send(run: &mut Run, clock: u64, draws: &mut Draws) {
-    let (words, letter) = message(run, clock, draws);
+    let (words, letter) = message(run.options_now(), clock, draws);
     let surplus: Vec<u64> = (0..draws.below(3)).map(|_| any_number(draws)).collect();
     let cut = [cut(draws), cut(draws)];
     let sending = Sending { letter, words, cut };
@@ -50,8 +52,7 @@ fn cut(draws: &mut Draws) -> usize {
     }
 }
 
-fn message(run: &Run, clock: u64, draws: &mut Draws) -> ([u64; 4], Letter) {
-    let options = run.options_now();
+fn message(options: Options, clock: u64, draws: &mut Draws) -> ([u64; 4], Letter) {
     let letter = Letter {
         now: if draws.once_in(20) {
             any_number(draws)
@@ -188,7 +189,7 @@ fn tick(run: &mut Run, clock: u64, draws: &mut Draws) {
     let count = draws.below(13);
     let mut sendings = Vec::new();
     for _ in 0..count {
-        let (words, letter) = message(run, clock, draws);
+        let (words, letter) = message(run.options_now(), clock, draws);
         let mut sending = Sending {
             letter,
             words,
@@ -236,4 +237,17 @@ fn near_the_limit(run: &mut Run, clock: u64, draws: &mut Draws) {
     tick(run, clock, draws);
     let more = run.network[SENT] - near;
     run.set_sent(old + more);
+}
+
+/// A message's fate alone, under any options.
+pub fn fate(draws: &mut Draws) -> Case {
+    let options = with_any_flag(options_bad_once_in(8, draws), draws);
+    let clock = first_tick(draws);
+    let (words, mut letter) = message(options, clock, draws);
+    // A fate has no sender.
+    letter.sort = 0;
+    let surplus: Vec<u64> = (0..draws.below(3)).map(|_| any_number(draws)).collect();
+    let cut = [cut(draws), cut(draws)];
+    let sending = Sending { letter, words, cut };
+    fates::case(options, &sending, &surplus)
 }

@@ -1,9 +1,10 @@
 //! Compares the proved network with the Rust's.
 //!
 //! `network [--seed N] [--count N] [--plant NAME] [--sample FILE]`: the seed, how many calls and words put there are at least beside
-//! the ticks, a fault to plant in our side, and a file to which the sample is written instead of comparing. Ends with status 0 if
+//! the ticks and fates, a fault to plant in our side, and a file to which the sample is written instead of comparing. Ends with status 0 if
 //! there is no difference and every outcome was met.
 
+mod fates;
 mod inputs;
 mod planted;
 mod run;
@@ -16,14 +17,16 @@ use calls::sample::Sample;
 use calls::tally::outcomes;
 use std::process::ExitCode;
 
-/// How many calls and words put are compared at least, unless told; and a call in runs of ticks for so many of them.
+/// How many calls and words put are compared at least, unless told; and a call in runs of ticks, and a fate, for so many of them.
 const COUNT: u64 = 1_200_000;
 const TICK_ONCE_IN: u64 = 20;
+const FATE_ONCE_IN: u64 = 4;
 
-/// The sample's seed, and how many calls of runs and of ticks it has at least.
+/// The sample's seed, and how many calls of runs and of ticks, and how many fates, it has at least.
 const SAMPLE_SEED: u64 = 2_027;
 const SAMPLE_CALLS: u64 = 1_200;
 const SAMPLE_TICKS: u64 = 200;
+const SAMPLE_FATES: usize = 150;
 
 /// How much of a run has wrong expectations, at most.
 const SAMPLE_WRONG: usize = 80;
@@ -66,6 +69,7 @@ fn comparison() -> Comparison {
     names.push("tick".to_string());
     names.extend((23..=30).map(|number| format!("tick: refusal {number}")));
     names.extend(outcomes(&BOUNDARY, &[]));
+    names.extend(fates::outcomes());
     Comparison {
         name: "network",
         count: COUNT,
@@ -106,6 +110,12 @@ fn compare(compared: &mut Compared, seed: u64, count: u64) -> Agrees {
         }
     }
     compared.tell(format!("and {ticks} calls in runs of ticks"));
+    let mut draws = Draws::new(seed.rotate_left(32));
+    let fates = count / FATE_ONCE_IN;
+    for _ in 0..fates {
+        compared.case(&inputs::fate(&mut draws))?;
+    }
+    compared.tell(format!("and {fates} fates alone"));
     Ok(())
 }
 
@@ -141,7 +151,7 @@ fn is_of_the_rust(case: &Case) -> bool {
     }
 }
 
-/// Random runs, then ticks, then runs with wrong expectations.
+/// Random runs, then ticks, then runs with wrong expectations; and the same of fates.
 fn sample(sample: &mut Sample, seed: u64) {
     let mut draws = Draws::new(seed);
     while sample.calls() < SAMPLE_CALLS {
@@ -164,6 +174,20 @@ fn sample(sample: &mut Sample, seed: u64) {
         cases.extend(inputs::ticks(&mut draws).cases);
         cases
     });
+    sample_fates(sample, &mut Draws::new(!seed));
+}
+
+/// Fates, every outcome and refusal among them, and behind them some with wrong expectations.
+fn sample_fates(sample: &mut Sample, draws: &mut Draws) {
+    let mut missing = fates::outcomes();
+    let mut count = 0;
+    while count < SAMPLE_FATES || !missing.is_empty() {
+        let case = inputs::fate(draws);
+        missing.retain(|name| !case.met.contains(&name.into()));
+        sample.add(&case);
+        count += 1;
+    }
+    sample.add_wrong(&[Call::Fate], || vec![inputs::fate(draws)]);
 }
 
 #[cfg(test)]

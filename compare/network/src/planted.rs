@@ -5,13 +5,17 @@ use calls::raw::{head, RECORD_WORDS};
 use calls::rows::Rows;
 use calls::run::Plant;
 
-pub const ALL: [(&str, Plant); 6] = [
+pub const ALL: [(&str, Plant); 10] = [
     ("number", number),
     ("order", order),
     ("delayed", delayed),
     ("behind", behind),
     ("refused", refused),
     ("place", place),
+    ("copy", copy),
+    ("unused", unused),
+    ("told", told),
+    ("kind", kind),
 ];
 
 /// A queue that is full is refused by 28.
@@ -55,5 +59,33 @@ fn refused(case: &Case, answer: &mut u64, rows: &mut Rows) {
 fn place(case: &Case, answer: &mut u64, _: &mut Rows) {
     if case.call == Call::NetworkTick && *answer != 0 {
         *answer += 1;
+    }
+}
+
+/// The due ticks of a fate's two copies change places.
+fn copy(case: &Case, answer: &mut u64, rows: &mut Rows) {
+    if case.call == Call::Fate && *answer == 0 && rows.row(Row::Told6)[1] == 1 {
+        rows.row_mut(Row::Told6)[4..].swap(0, 1);
+    }
+}
+
+/// An extra of 0 that comes first counts as not used by a fate.
+fn unused(case: &Case, answer: &mut u64, rows: &mut Rows) {
+    if case.call == Call::Fate && *answer == 0 && rows.row(Row::Told6)[3] > 0 {
+        rows.row_mut(Row::Told6)[3] -= u64::from(rows.row(Row::Extras)[0] == 0);
+    }
+}
+
+/// A fate that lacks an extra tells that it is lost.
+fn told(case: &Case, answer: &mut u64, rows: &mut Rows) {
+    if case.call == Call::Fate && *answer == 27 {
+        rows.row_mut(Row::Told6)[0] = 1;
+    }
+}
+
+/// A fate's kind is looked at before its options.
+fn kind(case: &Case, answer: &mut u64, _: &mut Rows) {
+    if case.call == Call::Fate && *answer != 0 && case.numbers[6] > 10 {
+        *answer = 24;
     }
 }

@@ -31,11 +31,11 @@ pub struct Sending {
 
 /// What a send gives: the first refusal that it meets, and how many draws and extras it uses. The words lent to us are those
 /// that the Rust drew, and as extras those that its due ticks show.
-struct Sent {
-    refusal: u64,
-    draws: Vec<u64>,
-    extras: Vec<u64>,
-    after: Judge,
+pub struct Sent {
+    pub refusal: u64,
+    pub draws: Vec<u64>,
+    pub extras: Vec<u64>,
+    pub after: Judge,
 }
 
 impl Run {
@@ -132,7 +132,7 @@ impl Run {
             mut draws,
             mut extras,
             after,
-        } = self.sent(&self.judge, sending);
+        } = sent(&self.judge, self.ill_formed, sending);
         let used = [draws.len() as u64, extras.len() as u64];
         for (list, cut) in [(&mut draws, sending.cut[0]), (&mut extras, sending.cut[1])] {
             lend(list, surplus, cut);
@@ -155,66 +155,6 @@ impl Run {
         let case = case(Call::NetworkSend, &numbers, told(refusal, Told::Sent(fate)));
         let case = case.put(Row::Draws, 0, &draws);
         self.add(case.put(Row::Extras, 0, &extras), &before);
-    }
-
-    /// A send on a network that the Rust has.
-    fn sent(&self, judge: &Judge, sending: &Sending) -> Sent {
-        let letter = sending.letter;
-        let mut after = judge.copy();
-        let asked = Letter {
-            kind: letter.kind.min(10),
-            sort: letter.sort.min(1),
-            ..letter
-        };
-        let used = after.send(asked, &sending.words);
-        let options = words_of(judge.options());
-        let min = options[2];
-        let faulted = asked.kind != 0 || options[4] == 1;
-        let dues = dues(&after, judge.seq());
-        // The Rust's sums wrap in this build, so that the difference is the extra even past the last tick.
-        let extras: Vec<u64> = if faulted && options[3] != min {
-            dues.iter()
-                .map(|due| due.wrapping_sub(letter.now).wrapping_sub(min))
-                .collect()
-        } else {
-            Vec::new()
-        };
-        let late = faulted
-            && (0..dues.len()).any(|place| {
-                let extra = extras.get(place).copied().unwrap_or_default();
-                u128::from(letter.now) + u128::from(min) + u128::from(extra) > u128::from(u64::MAX)
-            });
-        let draws = sending.words[..used - extras.len()].to_vec();
-        // 24: the Rust has no such kind or sort.
-        let known = letter.kind <= 10 && letter.sort <= 1;
-        let refusal = if self.ill_formed {
-            // 23: the Rust's network is never ill formed.
-            23
-        } else if !known {
-            24
-        } else if judge.counters()[0] == SENT_LIMIT {
-            // 25: the Rust counts on.
-            25
-        } else if !draws.is_empty() && sending.cut[0] > 0 {
-            // 26 and 27: the Rust's generator never ends.
-            26
-        } else if !extras.is_empty() && sending.cut[1] > 0 {
-            27
-        } else if late {
-            // 28: the Rust's sum overflows.
-            28
-        } else if after.pending() > CAPACITY {
-            // 29: the Rust's queue grows on.
-            29
-        } else {
-            0
-        };
-        Sent {
-            refusal,
-            draws,
-            extras,
-            after,
-        }
     }
 
     pub fn take(&mut self, now: u64, room: usize) {
@@ -288,7 +228,7 @@ impl Run {
         let mut after = self.judge.copy();
         let mut refused = None;
         for (place, sending) in sendings.iter().enumerate() {
-            let sent = self.sent(&after, sending);
+            let sent = sent(&after, self.ill_formed, sending);
             draws.extend(&sent.draws);
             extras.extend(&sent.extras);
             if sent.refusal != 0 {
@@ -371,6 +311,66 @@ impl Run {
     }
 }
 
+/// A send on a network that the Rust has.
+pub fn sent(judge: &Judge, ill_formed: bool, sending: &Sending) -> Sent {
+    let letter = sending.letter;
+    let mut after = judge.copy();
+    let asked = Letter {
+        kind: letter.kind.min(10),
+        sort: letter.sort.min(1),
+        ..letter
+    };
+    let used = after.send(asked, &sending.words);
+    let options = words_of(judge.options());
+    let min = options[2];
+    let faulted = asked.kind != 0 || options[4] == 1;
+    let dues = dues(&after, judge.seq());
+    // The Rust's sums wrap in this build, so that the difference is the extra even past the last tick.
+    let extras: Vec<u64> = if faulted && options[3] != min {
+        dues.iter()
+            .map(|due| due.wrapping_sub(letter.now).wrapping_sub(min))
+            .collect()
+    } else {
+        Vec::new()
+    };
+    let late = faulted
+        && (0..dues.len()).any(|place| {
+            let extra = extras.get(place).copied().unwrap_or_default();
+            u128::from(letter.now) + u128::from(min) + u128::from(extra) > u128::from(u64::MAX)
+        });
+    let draws = sending.words[..used - extras.len()].to_vec();
+    // 24: the Rust has no such kind or sort.
+    let known = letter.kind <= 10 && letter.sort <= 1;
+    let refusal = if ill_formed {
+        // 23: the Rust's network is never ill formed.
+        23
+    } else if !known {
+        24
+    } else if judge.counters()[0] == SENT_LIMIT {
+        // 25: the Rust counts on.
+        25
+    } else if !draws.is_empty() && sending.cut[0] > 0 {
+        // 26 and 27: the Rust's generator never ends.
+        26
+    } else if !extras.is_empty() && sending.cut[1] > 0 {
+        27
+    } else if late {
+        // 28: the Rust's sum overflows.
+        28
+    } else if after.pending() > CAPACITY {
+        // 29: the Rust's queue grows on.
+        29
+    } else {
+        0
+    };
+    Sent {
+        refusal,
+        draws,
+        extras,
+        after,
+    }
+}
+
 /// A case before which head and records are filled with a pattern.
 fn unwritten(case: Case) -> Case {
     case.filled(Row::Head, PATTERN)
@@ -404,7 +404,7 @@ fn letter_words(letter: Letter) -> [u64; 6] {
 }
 
 /// What is lent of a list of words that are used: with the surplus behind them, at most four; or, where words are cut, too few.
-fn lend(list: &mut Vec<u64>, surplus: &[u64], cut: usize) {
+pub fn lend(list: &mut Vec<u64>, surplus: &[u64], cut: usize) {
     let used = list.len();
     list.extend(surplus);
     list.truncate((used + surplus.len()).min(4));
@@ -414,14 +414,14 @@ fn lend(list: &mut Vec<u64>, surplus: &[u64], cut: usize) {
 }
 
 /// The due ticks of the copies with higher numbers, in the order of these.
-fn dues(after: &Judge, seq: u64) -> Vec<u64> {
+pub fn dues(after: &Judge, seq: u64) -> Vec<u64> {
     let mut records = after.records();
     records.retain(|record| record[1] > seq);
     records.sort_by_key(|record| record[1]);
     records.iter().map(|record| record[0]).collect()
 }
 
-fn options_of(options: Options) -> NetworkOptions {
+pub fn options_of(options: Options) -> NetworkOptions {
     NetworkOptions {
         packet_loss_probability: f64::from_bits(options[0]),
         packet_replay_probability: f64::from_bits(options[1]),
@@ -443,7 +443,7 @@ fn words_of(options: &NetworkOptions) -> Options {
 }
 
 /// The refusal of options, by what the Rust's validate says.
-fn bad(options: Options) -> u64 {
+pub fn bad(options: Options) -> u64 {
     match options_of(options).validate() {
         Ok(()) => 0,
         Err(error) => match error.to_string() {

@@ -1,5 +1,6 @@
 //! The simulator's network.rs over the proved library: the same names and the same lines of the log, so that the simulator
-//! does not know the difference. The generator stays here, and so do the bodies, which the crate keeps.
+//! does not know the difference. The generator stays here, and so do the bodies, which the crate keeps. The crate decides what
+//! is sent at once, and queues it with the next take that has something due.
 
 pub use crate::original::network::{
     message_kind, Envelope, MessageSummary, NetworkOptions, Origin, ReplicaId,
@@ -85,10 +86,6 @@ impl Network {
     }
 
     pub fn take_due(&mut self, now: u64) -> Vec<Envelope> {
-        // Most ticks have none.
-        if self.network.next_due().map_or(true, |due| due > now) {
-            return Vec::new();
-        }
         let due = self.network.take_due(now).unwrap_or_else(|r| refused(r));
         self.count();
         due.into_iter().map(envelope).collect()

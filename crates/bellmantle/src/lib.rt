@@ -14,6 +14,7 @@ ghost use Rattle.network_form.specs.Calls.{written};
 ghost use Rattle.network_send.specs.Sends.{letterOf};
 ghost use Rattle.network_take.specs.Takes.{dueIn};
 ghost use Rattle.network_layout.specs.Layout.{headIn, optionsFrom, answerCode};
+ghost use Rattle.network_fate.specs.Fates.{fateNumber, fateWords};
 ghost use Rattle.network_words.specs.Calls.{sendTold, newRows, optionRows, sendRows, takeRows, countRows, listRows};
 ghost use Rattle.network_batch.specs.Ticks.{ticked};
 ghost use Rattle.journal_calls.specs.Calls.{sends, takes, chooses, markAnswer, markWords};
@@ -107,6 +108,39 @@ pub extern "C" fn bellmantle_network_send(
         handle: handle,
     };
     network_words::send(head, records, letter, draws, extras, told)
+}
+
+// What becomes of a message of a kind that is sent at tick `now` under these options, with no network: whether it is lost, whether it is
+// replayed, the draws and extras used, and the due ticks of the copy and of the original are told.
+#[no_mangle]
+pub extern "C" fn bellmantle_fate(
+    loss: u64,
+    replay: u64,
+    min: u64,
+    mean: u64,
+    flag: u64,
+    now: u64,
+    kind: u64,
+    draws: &[u64],
+    extras: &[u64],
+    told: &mut [u64; network_fate::TOLD_WORDS],
+) -> u64
+    ensures answer { λ r. ⌜ r ≡ fateNumber (optionsFrom loss replay min mean flag) now kind (draws .entry .now) (extras .entry .now) ⌝ }
+    ensures told { λ _. ⌜ told .exit .now ≡ fateWords (optionsFrom loss replay min mean flag) now kind (draws .entry .now)
+        (extras .entry .now) (told .entry .now) ⌝ }
+{
+    network_fate::fate(
+        loss,
+        replay,
+        min,
+        mean,
+        flag,
+        now,
+        kind,
+        draws,
+        extras,
+        told,
+    )
 }
 
 // Takes every message due at tick `now` to the front of the lent output: how many they are is told.

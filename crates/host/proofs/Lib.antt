@@ -5,6 +5,7 @@ pub mod Numbered
 pub mod Refusing
 pub mod Composing
 pub mod Unused
+pub mod Fates
 pub mod Batch
 pub mod Sends
 pub mod Places

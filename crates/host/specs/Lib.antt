@@ -5,3 +5,4 @@ pub mod Batch
 pub mod Places
 pub mod Plants
 pub mod Numbers
+pub mod Fates

@@ -6,13 +6,11 @@ use mathlib.Core.List.{List, _++_}
 use mathlib.Core.Bool.{Bool, true, false, _&&_}
 use native.Mathlib.Omega.{arith}
 use borrow.Author.Tests.{le-leb}
-use lib.ListN.{length, drop, replicate, replicate-append-replicate}
-use lib.Seq.{drop-at}
+use lib.ListN.{length, drop, replicate}
 use Rattle.nights.specs.Record.{Record, recordWords, recs, recordSize}
 use Rattle.nights.specs.Net.{capacity, Plain, keep, insertAll, wellFormed}
 use Rattle.nights.specs.Journal.{undone, unsend, untake, checked}
-use Rattle.nights.proofs.Order.{length-split, length-insertAll}
-use Rattle.nights.proofs.Undo.{length-recordWords}
+use Rattle.nights.proofs.Order.{length-insertAll}
 use Rattle.network_queue.specs.Packed.{packed, arraySize}
 use Rattle.network_queue.specs.Places.{insertedAll}
 use Rattle.network_queue.proofs.Inserting.{length-recs}
@@ -23,7 +21,10 @@ use Rattle.network.specs.Forms.{plainOf, isFormed}
 use Rattle.network_form.specs.Forms.{formedIn}
 use Rattle.network_form.proofs.Maps.{words-are as packed-are}
 use Rattle.network.proofs.Structs.{small}
-use Rattle.journal_undo.specs.Undone.{sealedOf, upTo}
+use Rattle.network_drop.specs.Numbered.{upTo}
+use Rattle.network_drop.proofs.Keeping.{kept-few}
+use Rattle.network_drop.proofs.Dropping.{dropped}
+use Rattle.journal_undo.specs.Undone.{sealedOf}
 
 right-true : (a b : Bool) → b ≡ true → a && b ≡ a
 right-true true b e = e
@@ -57,25 +58,15 @@ module _ (s : Network) (f : isFormed s ≡ true) (long : length (s .words) ≡ a
   words-are : s .words ≡ packed held
   words-are = sym (packed-are (s .head) (s .words) f long)
 
-  behind : drop (s .head .pending * recordSize) (s .words) ≡ replicate (arraySize - recordSize * s .head .pending) 0
-  unfolding packed
-  behind =
-      ap (λ (x : List ℕ). drop (s .head .pending * recordSize) x) words-are
-      ∙ (drop-at (recordWords held) _ (s .head .pending * recordSize) (omega (arith, length-recordWords held, held-length))
-      ∙ ap (λ (k : ℕ). replicate {A = ℕ} (arraySize - recordSize * k) 0) held-length)
-
   -- ---- a send
 
   module _ (q l r d m : ℕ) (w : List ℕ) (c : m ≡ length (keep (upTo q) held))
       (e : w ≡ recordWords (keep (upTo q) held) ++ (replicate ((s .head .pending - m) * recordSize) 0 ++ drop (s .head .pending * recordSize) (s .words))) where
     few : m ≤ s .head .pending
-    few = omega (arith, c, length-split (upTo q) held, held-length)
+    few = omega (arith, c, kept-few (s .words) q (s .head .pending))
 
     unsent-words : w ≡ packed (keep (upTo q) held)
-    unfolding packed
-    unsent-words =
-        let z : (s .head .pending - m) * recordSize + (arraySize - recordSize * s .head .pending) ≡ arraySize - recordSize * length (keep (upTo q) held) = omega (arith, few, c, small s f) in
-        rw (e, behind, replicate-append-replicate {A = ℕ} ((s .head .pending - m) * recordSize) (arraySize - recordSize * s .head .pending) 0, z)
+    unsent-words = dropped (s .words) (s .head .pending) words-are (small s f) q m w c e
 
     abbrev unsent : Network
     unsent =

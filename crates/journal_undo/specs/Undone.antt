@@ -1,8 +1,6 @@
 -- What the code's undoing tells, in the plain form. Assumes nothing.
 use Prim.Native.Nat.{ℕ}
-use mathlib.Core.Bool.{Bool, cond}
-use lib.Dec.{leb}
-use Rattle.nights.specs.Record.{Record}
+use mathlib.Core.Bool.{cond}
 use Rattle.nights.specs.Journal.{Undone as Told, misfit, undone}
 use Rattle.network.specs.declared.Network.{Network}
 use Rattle.network.specs.Forms.{plainOf, isFormed}
@@ -15,7 +13,3 @@ undoneOf u = cond (u .fits) (undone (plainOf (u .network)) (u .start)) misfit
 -- the same of a network that is still to be tested
 unfoldable pub sealedOf : Network → ℕ → Told
 sealedOf s start = cond (isFormed s) (undone (plainOf s) start) misfit
-
--- a record's number is at most that one
-abbrev pub upTo : ℕ → Record → Bool
-upTo last r = leb (r .seq) last

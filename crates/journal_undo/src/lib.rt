@@ -13,16 +13,15 @@ use network_options::NetworkOptions;
 use network_take::Counted;
 ghost use mathlib.Core.Path.{_≡_};
 ghost use mathlib.Core.Bool.{true, false};
-ghost use mathlib.Core.List.{_++_};
 ghost use Prim.Native.Nat.{_+_, _-_, _*_, _≤_};
-ghost use lib.ListN.{length, drop, replicate};
-ghost use Rattle.nights.specs.Record.{recordWords, recordAt, recs, recordSize};
-ghost use Rattle.nights.specs.Net.{keep, capacity};
+ghost use lib.ListN.{length};
+ghost use Rattle.nights.specs.Record.{recordAt, recs, recordSize};
+ghost use Rattle.nights.specs.Net.{capacity};
 ghost use Rattle.nights.specs.Journal.{undoAs, undoOne, checked, undoAll};
 ghost use Rattle.network_queue.specs.Plain.{plainRecord};
 ghost use Rattle.network_queue.specs.Places.{insertedAll};
 ghost use Rattle.network.specs.Forms.{plainOf, isFormed};
-ghost use Rattle.journal_undo.specs.Undone.{undoneOf, sealedOf, upTo};
+ghost use Rattle.journal_undo.specs.Undone.{undoneOf, sealedOf};
 ghost use Rattle.network_queue.specs.Packed.{arraySize};
 
 // What undoing gives: the network from before, and where in the journal the undone records start. Where one does not fit, neither
@@ -62,41 +61,6 @@ fn sealed(before: Network, after: Network, start: usize) -> Undone
 
 // ---- A send
 
-// Those of the first n records whose number is at most `last` move to the front, in their order; how many they are.
-fn keep_front(w: &mut [u64; network_queue::WORDS], n: usize, last: u64) -> usize
-    requires { ⌜ (length (now w) ≡ arraySize) × (n ≤ capacity) ⌝ }
-    ensures count { λ m. ⌜ m ≡ length (keep (upTo last) (recs (now (w .entry)) 0 n)) ⌝ }
-    ensures words { λ m. ⌜ now (w .exit) ≡ recordWords (keep (upTo last) (recs (now (w .entry)) 0 n)) ++ drop (m * recordSize) (now (w .entry)) ⌝ }
-{
-    let mut m: usize = 0;
-    let mut i: usize = 0;
-    while i < n {
-        let r = network_queue::record_at(w, i * network_queue::RECORD_SIZE);
-        if r.seq <= last {
-            network_queue::put(w, m * network_queue::RECORD_SIZE, r);
-            m += 1;
-        }
-        i += 1;
-    }
-    m
-}
-
-// The records numbered above `last` are dropped, and zeros stand behind the others.
-fn drop_above(w: &mut [u64; network_queue::WORDS], n: usize, last: u64) -> usize
-    requires { ⌜ (length (now w) ≡ arraySize) × (n ≤ capacity) ⌝ }
-    ensures count { λ m. ⌜ m ≡ length (keep (upTo last) (recs (now (w .entry)) 0 n)) ⌝ }
-    ensures words { λ m. ⌜ now (w .exit) ≡ recordWords (keep (upTo last) (recs (now (w .entry)) 0 n))
-        ++ (replicate ((n - m) * recordSize) 0 ++ drop (n * recordSize) (now (w .entry))) ⌝ }
-{
-    let m = keep_front(w, n, last);
-    network_queue::clear(
-        w,
-        m * network_queue::RECORD_SIZE,
-        n * network_queue::RECORD_SIZE,
-    );
-    m
-}
-
 // The network before the send whose record stands from `start` up to `end`.
 fn undo_send(network: Network, journal: &[u64], start: usize, end: usize) -> Undone
     requires { ⌜ (isFormed network ≡ true) × (2 ≤ start) × (start ≤ end) × (end ≤ length (now journal)) ⌝ }
@@ -113,7 +77,7 @@ fn undo_send(network: Network, journal: &[u64], start: usize, end: usize) -> Und
     let mut words = network.words;
     let n = head.pending;
     let seq = journal[start];
-    head.pending = drop_above(&mut words, n, seq);
+    head.pending = network_drop::drop_above(&mut words, n, seq);
     head.seq = seq;
     head.sent = head.sent - 1;
     head.lost = journal[start + 1];

@@ -1,4 +1,4 @@
--- The sends one after the other: one more of them, where they stop, and what they leave. Assumes nothing.
+-- The sends one after the other: one more of them, and where they stop. Assumes nothing.
 use Prim.Native.Nat.{ℕ, zero, suc, _+_, _-_, _≤_, _<_}
 use mathlib.Core.Path.{_≡_, refl, sym, ap, _∙_}
 use mathlib.Core.Bool.{true}
@@ -92,21 +92,6 @@ module _ (sends draws extras : List ℕ) where
           let y : j ≡ k = cc in
           let z : place ≡ p = cc in
           record { number = omega (arith, send-number (letterAt sends place) (drop d draws) (drop x extras) h w j q); within = omega arith }
-
-  -- ---- what they leave
-  pub leaves : (left place d x : ℕ) (h : Head) (w : List ℕ) → Whole h w → (t : Head) (v : List ℕ) (g y : ℕ) → sendsFrom sends draws extras left place d x h w ≡ all t v g y → Whole t v
-  unfolding sendsFrom
-  leaves zero place d x h w o t v g y e = let z : h ≡ t = cc in let u : w ≡ v = cc in rw (z, u) at o
-  leaves (suc left) place d x h w o t v g y e =
-      go (answerIn (callAt sends draws extras place d x) h w) refl
-      (λ q. leaves left (suc place) _ _ _ _ (stays-whole (callAt sends draws extras place d x) h w q) t v g y (sym (goes-on left place d x h w q) ∙ e))
-    where
-      go : (a : Answer) → answerIn (callAt sends draws extras place d x) h w ≡ a → (answerIn (callAt sends draws extras place d x) h w ≡ done → Whole t v) → Whole t v
-      go done q more = more q
-      go (refused j) q more =
-          let r : stopped j place ≡ all t v g y = sym (stops left place d x h w j q) ∙ e in
-          let z : _≡_ {A = ℕ} 0 1 = cc in
-          absurd (omega arith)
 
 -- ---- what the code's run says of them
 pub ran-stopped : (t : Run) (w : List ℕ) → (t .refusal ≡ 0 → ⊥) → ranOf t w ≡ stopped (t .refusal) (t .place)

@@ -78,9 +78,11 @@ module _ (h r sends draws extras : List ℕ) (now : ℕ) (out told : List ℕ) w
               opens
               ∙ rw (le-leb (length sends / messageWords) mostMessages c, eq-eqb (length sends) (messageWords * (length sends / messageWords)) e)
 
-          pub send-refused : (k p : ℕ) → ran ≡ stopped k p → (n : ℕ) → n ≡ numberAt k p → Ticked n h r out told
+          pub send-refused : (k p : ℕ) → ran ≡ stopped k p → (n : ℕ) → n ≡ numberAt k p → (b : List ℕ) → b ≡ r → Ticked n h b out told
           unfolding afterSends
-          send-refused k p q = refuses k p (sends-first ∙ ap (afterSends h r sends draws extras now out told) q)
+          send-refused k p q n m b y =
+              let l = refuses k p (sends-first ∙ ap (afterSends h r sends draws extras now out told) q) n m in
+              (l .0, (l .1 .0, (y ∙ l .1 .1 .0, l .1 .1 .1)))
 
           module _ (t : Head) (v : List ℕ) (d x : ℕ) (q : ran ≡ all t v d x) where
             takes-then : whole ≡ takingLast h r sends draws extras now out told (answerIn (collect now (length out)) t v) t v d x
@@ -88,11 +90,11 @@ module _ (h r sends draws extras : List ℕ) (now : ℕ) (out told : List ℕ) w
             takes-then = sends-first ∙ ap (afterSends h r sends draws extras now out told) q
 
             pub take-refused : (k : ℕ) → answerIn (collect now (length out)) t v ≡ refused k → (n : ℕ) → n ≡ numberAt k (length sends / messageWords)
-                → (o : List ℕ) → o ≡ takeGives now out t v → Ticked n h r o told
+                → (b o : List ℕ) → b ≡ r → o ≡ takeGives now out t v → Ticked n h b o told
             unfolding takingLast ifDone
-            take-refused k a n m o u =
+            take-refused k a n m b o y u =
                 let l = refuses k (length sends / messageWords) (takes-then ∙ ap (λ (z : Answer). takingLast h r sends draws extras now out told z t v d x) a) n m in
-                (l .0, (l .1 .0, (l .1 .1 .0, ((rw a at u) ∙ l .1 .1 .1 .0, l .1 .1 .1 .1))))
+                (l .0, (l .1 .0, (y ∙ l .1 .1 .0, ((rw a at u) ∙ l .1 .1 .1 .0, l .1 .1 .1 .1))))
 
             pub all-done : answerIn (collect now (length out)) t v ≡ done
                 → (s : Head) → s ≡ headAfter (collect now (length out)) t v

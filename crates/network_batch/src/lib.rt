@@ -1,6 +1,7 @@
 // A tick of the network over lent words: its sends, one after the other, and then a take, with the network tested once. If one of the
 // calls is refused the whole is, with that call's number and place, and no lent word is changed; else it is the calls one after the
-// other. The records are worked on in a copy, and written back when all is done.
+// other. The records are worked on in place: where a call is refused, the copies that the sends before it queued are dropped again,
+// which are those of the newest numbers.
 use network_form::Head;
 use network_layout::HEAD_WORDS;
 use network_layout::ILL_FORMED;
@@ -13,7 +14,10 @@ ghost use mathlib.Core.Path.{_≡_};
 ghost use mathlib.Core.Bool.{true};
 ghost use Prim.Native.Nat.{_+_, _*_, _≤_};
 ghost use lib.ListN.{length};
-ghost use Rattle.network_queue.specs.Packed.{arraySize};
+ghost use Rattle.nights.specs.Record.{recs};
+ghost use Rattle.nights.specs.Net.{keep};
+ghost use Rattle.network_queue.specs.Packed.{packed, arraySize};
+ghost use Rattle.network_drop.specs.Numbered.{upTo};
 ghost use Rattle.network_form.specs.Forms.{formedIn};
 ghost use Rattle.network_send.specs.Sends.{plainLetter};
 ghost use Rattle.network_batch.specs.Ticks.{messageWords, mostMessages, letterAt, numberAt, sendsFrom, ticked, ranOf};
@@ -62,7 +66,7 @@ struct Run {
     extras: usize,
 }
 
-// The sends, one after the other, on records that may be left half done where one is refused.
+// The sends, one after the other, up to the first that is refused. Of the records then pending, those numbered as before are the old ones.
 fn send_all(
     records: &mut [u64; WORDS],
     head: Head,
@@ -72,8 +76,11 @@ fn send_all(
     extras: &[u64],
 ) -> Run
     requires { ⌜ (length (now records) ≡ arraySize) × (formedIn head (now records) ≡ true) × (messageWords * count ≤ length (now sends)) ⌝ }
-    ensures { λ t. ⌜ ranOf t (now (records .exit))
+    ensures ran { λ t. ⌜ ranOf t (now (records .exit))
         ≡ sendsFrom (now (sends .entry)) (now (draws .entry)) (now (extras .entry)) count 0 0 0 head (now (records .entry)) ⌝ }
+    ensures whole { λ t. ⌜ (length (now (records .exit)) ≡ arraySize) × (formedIn (t .head) (now (records .exit)) ≡ true) ⌝ }
+    ensures older { λ t. ⌜ keep (upTo (head .seq)) (recs (now (records .exit)) 0 (t .head .pending))
+        ≡ recs (now (records .entry)) 0 (head .pending) ⌝ }
 {
     let mut me = head;
     let mut drawn: usize = 0;
@@ -115,6 +122,14 @@ fn send_all(
     }
 }
 
+// The records without those that sends since a network's time have queued.
+fn take_back(records: &mut [u64; WORDS], after: Head, before: Head)
+    requires { ⌜ (length (now records) ≡ arraySize) × (formedIn after (now records) ≡ true) ⌝ }
+    ensures { λ _. ⌜ now (records .exit) ≡ packed (keep (upTo (before .seq)) (recs (now (records .entry)) 0 (after .pending))) ⌝ }
+{
+    network_drop::drop_above(records, after.pending, before.seq);
+}
+
 // The sends of a tick and then a take at `now`: the draws and the extras used and the records taken are told.
 pub fn tick(
     head: &mut [u64; HEAD_WORDS],
@@ -152,18 +167,20 @@ pub fn tick(
     if count * MESSAGE != sends.len() {
         return at(BROKEN_MESSAGE, count);
     }
-    let mut work = *records;
-    let run = send_all(&mut work, loaded.head, sends, count, draws, extras);
+    let run = send_all(records, loaded.head, sends, count, draws, extras);
     if run.refusal != 0 {
+        take_back(records, run.head, loaded.head);
         return at(run.refusal, run.place);
     }
-    let taken = network_take::take_on(&mut work, run.head, now, out);
+    let taken = network_take::take_on(records, run.head, now, out);
     let answer = taken.answer;
     match answer {
-        Counted::Refused(refusal) => at(number_of(refusal), count),
+        Counted::Refused(refusal) => {
+            take_back(records, run.head, loaded.head);
+            at(number_of(refusal), count)
+        }
         Counted::Records(k) => {
             network_layout::store(taken.head, head);
-            *records = work;
             *told = [run.draws as u64, run.extras as u64, k as u64];
             0
         }

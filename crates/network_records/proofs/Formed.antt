@@ -109,7 +109,7 @@ unfolding among
 sought q [] e = tt
 sought q (y ∷ ys) e = sought-step (eqb (y .seq) q) q y ys refl e (λ (h : among q ys ≡ false). sought q ys h)
 
-absent : (q : ℕ) (l : List Record) → All (λ (y : Record). y .seq ≡ q → ⊥) l → among q l ≡ false
+pub absent : (q : ℕ) (l : List Record) → All (λ (y : Record). y .seq ≡ q → ⊥) l → among q l ≡ false
 unfolding among
 absent q [] a = refl
 absent q (y ∷ ys) a = rw (ne-eqb (y .seq) q (a .0), absent q ys (a .1))

@@ -2,5 +2,6 @@
 pub mod Formed
 pub mod Walking
 pub mod Numbers
+pub mod Gathering
 pub mod Zeros
 pub mod Clauses

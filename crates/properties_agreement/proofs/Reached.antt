@@ -1,4 +1,5 @@
--- The first plant that has committed an index: it is one of the plants, and it has committed it if any has. Assumes nothing.
+-- The first plant that has committed an index: it is one of the plants, and it has committed it if any has. And the canonical entry in words.
+-- Assumes nothing.
 use borrow.Author.Tests.{lt-ltb, le-ltb}
 use native.Mathlib.Omega.{arith}
 use native.Mathlib.Decide.{decLt}
@@ -9,10 +10,10 @@ use Prim.Native.Nat.{ℕ, zero, suc, _+_, _-_, _≤_, _<_}
 use lib.Dec.{ltb}
 use lib.ListN.{getD}
 use Rattle.properties_snapshots.specs.Cluster.{Cluster, plant, entry, entryIn, clusterIn}
-use Rattle.properties_snapshots.specs.Layout.{commitAt, entryAt}
+use Rattle.properties_snapshots.specs.Layout.{commitAt, entryAt, lengthAt, canonicalAt}
 use Rattle.properties_snapshots.specs.Shape.{Snapshot, Forward}
-use Rattle.properties_snapshots.proofs.Held.{commit-held, entry-held}
-use Rattle.properties_agreement.specs.Agreement.{committerFrom, committer}
+use Rattle.properties_snapshots.proofs.Held.{commit-held, entry-held, canonical-long, canonical-held}
+use Rattle.properties_agreement.specs.Agreement.{committerFrom, committer, canonicalEntry}
 
 in-reach : (c : Cluster) (i q k : ℕ) → committerFrom c i q k ≤ q + k
 unfolding committerFrom
@@ -54,3 +55,13 @@ module _ (n : ℕ) (p l t : List ℕ) (s : Snapshot n p l) (f : Forward n p t) w
       let g : i < plant c r .commit = omega (arith, commit-held n p l t r h) in
       entry-held n p l t (committer c i) b i
       (omega (arith, committer-committed c i r h g, commit-held n p l t (committer c i) b, f .within (committer c i) b))
+
+  -- the canonical entry in words: the tracker's, or that of the first plant that committed it
+  pub canonical-known : (i : ℕ) → i < getD t lengthAt 0 → canonicalEntry (clusterIn n p l t) i ≡ entryIn t (canonicalAt n i)
+  unfolding canonicalEntry
+  canonical-known i g = rw (canonical-long n p l t, lt-ltb i (getD t lengthAt 0) g, canonical-held n p l t i g)
+
+  pub canonical-new : (i r : ℕ) → r < n → i < getD p (commitAt r) 0 → getD t lengthAt 0 ≤ i → canonicalEntry (clusterIn n p l t) i ≡ entryIn l
+      (entryAt (committer (clusterIn n p l t) i) i)
+  unfolding canonicalEntry
+  canonical-new i r h k g = rw (canonical-long n p l t, le-ltb i (getD t lengthAt 0) g) (committed-entry i r h k)

@@ -5,7 +5,7 @@ use mathlib.Core.Bool.{Bool, true, false}
 use mathlib.Core.List.{List, [], _∷_}
 use mathlib.Core.Logic.{_↔_}
 use mathlib.Core.Path.{_≡_, refl, ap}
-use Prim.Native.Nat.{ℕ, zero, suc, _+_, _≤_, _<_}
+use Prim.Native.Nat.{ℕ, suc, _<_}
 use lib.Dec.{eqb}
 use lib.IntN.{ℤ, pos, ℤ-discrete}
 use lib.ListN.{length, getD}
@@ -13,7 +13,7 @@ use lib.Seq.{ext-getD}
 use Rattle.properties_snapshots.specs.Cluster.{LogEntry, Cluster, sameEntry, noEntry, plant, entry}
 use Rattle.properties_snapshots.proofs.Same.{same-entries, entries-same}
 use Rattle.properties_verdicts.specs.Verdicts.{firstOf, firstFailed, atEntry}
-use Rattle.properties_verdicts.proofs.First.{broken-no-pass, then-pass, test-holds, first-pass}
+use Rattle.properties_verdicts.proofs.First.{broken-no-pass, then-pass, test-holds, first-pass, all-pass}
 use Rattle.properties_convergence.specs.Convergence.{sameValue, convergedWith, converged}
 use Rattle.properties_convergence.proofs.Values.{told-same, same-told}
 use Rattle.properties_verdicts.specs.declared.Answer.{Answer}
@@ -31,12 +31,6 @@ pub record Alike (c : Cluster) (values : List ℤ) (reference id : ℕ) : Type 0
 first-holds : (p : Property) (r t : ℕ) (b : Bool) (bs : List Bool) → firstFailed p r t (b ∷ bs) ≡ Pass → (b ≡ true) × (firstFailed p r (suc t) bs ≡ Pass)
 first-holds p r t true bs e = (refl, e)
 first-holds p r t false bs e = absurd (broken-no-pass p r 0 t e)
-
--- all pass: the first that does not is none
-all-pass : (f : ℕ → Answer) (i k : ℕ) → ((j : ℕ) → i ≤ j → j < i + k → f j ≡ Pass) → firstOf f i k ≡ Pass
-unfolding firstOf
-all-pass f i zero h = refl
-all-pass f i (suc k) h = rw (h i (omega arith) (omega arith)) (all-pass f (suc i) k (λ j a b. h j (omega arith) (omega arith)))
 
 module _ (c : Cluster) (values : List ℤ) (reference id : ℕ) where
   abbrev compared : ℕ → Answer

@@ -1,11 +1,12 @@
 // Property 6: a committed entry is held by enough plants to be in every quorum that those not recovering could form.
 ghost use mathlib.Core.List.{List};
 ghost use mathlib.Core.Path.{_≡_};
-ghost use Prim.Native.Nat.{ℕ, _*_, _≤_, _<_};
+ghost use Prim.Native.Nat.{ℕ, _+_, _*_, _≤_, _<_};
 ghost use lib.ListN.{length, getD};
 ghost use Rattle.basis.specs.Basis.{most};
-ghost use Rattle.properties_snapshots.specs.Cluster.{entry, clusterIn};
-ghost use Rattle.properties_snapshots.specs.Layout.{plantWords, sizeAt};
+ghost use Rattle.properties_snapshots.specs.Below.{countBelow};
+ghost use Rattle.properties_snapshots.specs.Cluster.{entryIn, clusterIn};
+ghost use Rattle.properties_snapshots.specs.Layout.{entryWords, logEntries, plantWords, sizeAt};
 ghost use Rattle.properties_snapshots.specs.Shape.{Snapshot};
 ghost use Rattle.properties_durability.specs.Durability.{participants, neededCopies, holdsCopy, copiesOf};
 
@@ -43,10 +44,19 @@ pub fn copies(n: usize, plants: &[u64], logs: &[u64], r: usize, i: usize) -> usi
     requires { ⌜ Snapshot n (now plants) (now logs) × (r < n) × (i < getD (now plants) (sizeAt r) 0) ⌝ }
     ensures { λ k. ⌜ ((t : List ℕ) → k ≡ copiesOf (clusterIn n (now (plants .entry)) (now (logs .entry)) t) r i) ⌝ }
 {
+    let at = properties_snapshots::entry_at(r, i);
+    holders(n, plants, logs, i, logs, at)
+}
+
+// The plants, of those not recovering, that hold at index i the entry that stands from a place of some words on.
+pub fn holders(n: usize, plants: &[u64], logs: &[u64], i: usize, words: &[u64], at: usize) -> usize
+    requires { ⌜ Snapshot n (now plants) (now logs) × (i < logEntries) × (at + entryWords ≤ length (now words)) ⌝ }
+    ensures { λ k. ⌜ ((t : List ℕ) → k ≡ countBelow n (holdsCopy (clusterIn n (now (plants .entry)) (now (logs .entry)) t) i (entryIn (now (words .entry)) at))) ⌝ }
+{
     let mut count: usize = 0;
     let mut q: usize = 0;
     while q < n {
-        if holds_copy(n, plants, logs, r, i, q) {
+        if holds_copy(n, plants, logs, i, words, at, q) {
             count += 1;
         }
         q += 1;
@@ -54,9 +64,17 @@ pub fn copies(n: usize, plants: &[u64], logs: &[u64], r: usize, i: usize) -> usi
     count
 }
 
-fn holds_copy(n: usize, plants: &[u64], logs: &[u64], r: usize, i: usize, q: usize) -> bool
-    requires { ⌜ Snapshot n (now plants) (now logs) × (r < n) × (i < getD (now plants) (sizeAt r) 0) × (q < n) ⌝ }
-    ensures { λ b. ⌜ ((t : List ℕ) → b ≡ holdsCopy (clusterIn n (now (plants .entry)) (now (logs .entry)) t) i (entry (clusterIn n (now (plants .entry)) (now (logs .entry)) t) r i) q) ⌝ }
+fn holds_copy(
+    n: usize,
+    plants: &[u64],
+    logs: &[u64],
+    i: usize,
+    words: &[u64],
+    at: usize,
+    q: usize,
+) -> bool
+    requires { ⌜ Snapshot n (now plants) (now logs) × (i < logEntries) × (at + entryWords ≤ length (now words)) × (q < n) ⌝ }
+    ensures { λ b. ⌜ ((t : List ℕ) → b ≡ holdsCopy (clusterIn n (now (plants .entry)) (now (logs .entry)) t) i (entryIn (now (words .entry)) at) q) ⌝ }
 {
     if properties_snapshots::recovering_of(plants, q) == 1 {
         return false;
@@ -64,5 +82,6 @@ fn holds_copy(n: usize, plants: &[u64], logs: &[u64], r: usize, i: usize, q: usi
     if properties_snapshots::size_of(plants, q) <= i {
         return false;
     }
-    properties_snapshots::same_logged(logs, q, r, i)
+    let own = properties_snapshots::entry_at(q, i);
+    properties_snapshots::same_entry(logs, own, words, at)
 }

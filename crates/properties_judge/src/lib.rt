@@ -7,6 +7,7 @@ ghost use Rattle.properties_snapshots.specs.Cluster.{clusterIn};
 ghost use Rattle.properties_snapshots.specs.Layout.{commitAt};
 ghost use Rattle.properties_snapshots.specs.Shape.{Snapshot, Tracked, Forward};
 ghost use Rattle.properties_durability.specs.Durability.{participants, neededCopies};
+ghost use Rattle.properties_judge.specs.declared.EntryProperty.the-variants.{PrefixAgreement, NoDuplicates, Durability};
 ghost use Rattle.properties_judge.specs.Ticks.{named, asked, overEntries, judgedEntries, tickJudged};
 use properties_verdicts::Answer;
 use properties_verdicts::Property;
@@ -47,17 +48,42 @@ fn judge_entries(n: usize, plants: &[u64], logs: &[u64], tracker: &[u64]) -> Ans
     let Answer::Pass = agreement else {
         return agreement;
     };
-    let duplicates = entries(
+    let unseen = duplicates(needed, n, plants, logs, tracker);
+    let Answer::Pass = unseen else {
+        return unseen;
+    };
+    durability(needed, n, plants, logs, tracker)
+}
+
+// Property 4: at once where the marks of ids show it, and else entry by entry.
+fn duplicates(needed: usize, n: usize, plants: &[u64], logs: &[u64], tracker: &[u64]) -> Answer
+    requires { ⌜ Snapshot n (now plants) (now logs) × Tracked n (now tracker) × Forward n (now plants) (now tracker) ⌝ }
+    requires { ⌜ ((l t : List ℕ) → needed ≡ neededCopies n (participants (clusterIn n (now plants) l t))) ⌝ }
+    ensures { λ a. ⌜ a ≡ overEntries NoDuplicates (clusterIn n (now (plants .entry)) (now (logs .entry)) (now (tracker .entry))) ⌝ }
+{
+    if properties_marks::none_seen(n, plants, logs, tracker) {
+        return Answer::Pass;
+    }
+    entries(
         EntryProperty::NoDuplicates,
         needed,
         n,
         plants,
         logs,
         tracker,
-    );
-    let Answer::Pass = duplicates else {
-        return duplicates;
-    };
+    )
+}
+
+// Property 6 after 3 has passed: at once where every canonical entry has enough copies, and else entry by entry.
+fn durability(needed: usize, n: usize, plants: &[u64], logs: &[u64], tracker: &[u64]) -> Answer
+    requires { ⌜ Snapshot n (now plants) (now logs) × Tracked n (now tracker) × Forward n (now plants) (now tracker) ⌝ }
+    requires { ⌜ ((l t : List ℕ) → needed ≡ neededCopies n (participants (clusterIn n (now plants) l t))) ⌝ }
+    requires { ⌜ overEntries PrefixAgreement (clusterIn n (now plants) (now logs) (now tracker)) ≡ Answer.Pass ⌝ }
+    ensures { λ a. ⌜ a ≡ overEntries Durability (clusterIn n (now (plants .entry)) (now (logs .entry)) (now (tracker .entry))) ⌝ }
+{
+    if properties_canonical::all_durable(needed, n, plants, logs, tracker) {
+        return Answer::Pass;
+    }
     entries(EntryProperty::Durability, needed, n, plants, logs, tracker)
 }
 

@@ -2,9 +2,10 @@
 use native.Mathlib.Omega.{arith}
 use native.Mathlib.Decide.{decLt}
 use native.Mathlib.Numerals.{add-one}
+use native.Mathlib.Nat.{add-zero}
 use mathlib.Core.Bool.{Bool, true, false, _&&_}
 use mathlib.Core.List.{[], _∷_, _++_}
-use mathlib.Core.Path.{_≡_, refl, sym, ap, _∙_}
+use mathlib.Core.Path.{_≡_, refl, sym, ap, subst, _∙_}
 use Prim.Native.Nat.{ℕ, zero, suc, _+_, _≤_, _<_, max}
 use lib.ListN.{length, getD, length-append, List·getD-append}
 use lib.Seq.{getD-at}
@@ -39,6 +40,15 @@ pub numbered-more : {A : Type 0} (n : ℕ) (f : ℕ → A) → numbered (n + 1) 
 unfolding numbered
 numbered-more n f = rw add-one
 
+-- one number more, as a loop passes it
+pub below-more : (P : ℕ → Type 0) (n : ℕ) → ((k : ℕ) → k < n → P k) → P n → (k : ℕ) → k < n + 1 → P k
+below-more P n passed this k h =
+    elim (decLt k n) [ yes g ↦ passed k g | no g ↦ let z : n ≡ k = omega arith in subst P z this ]
+
+yes-side : (x : Bool) → x && true ≡ x
+yes-side true = refl
+yes-side false = refl
+
 pub all-none : (h : ℕ → Bool) → allBelow 0 h ≡ true
 unfolding allBelow
 all-none h = refl
@@ -46,6 +56,10 @@ all-none h = refl
 pub all-more : (n : ℕ) (h : ℕ → Bool) → allBelow n h ≡ true → h n ≡ true → allBelow (n + 1) h ≡ true
 unfolding allBelow
 all-more n h e f = rw (add-one, e, f)
+
+pub all-kept : (n : ℕ) (h : ℕ → Bool) → h n ≡ true → allBelow (n + 1) h ≡ allBelow n h
+unfolding allBelow
+all-kept n h e = rw (add-one, e) (yes-side (allBelow n h))
 
 pub all-true : (n : ℕ) (h : ℕ → Bool) → allBelow n h ≡ true → (k : ℕ) → k < n → h k ≡ true
 unfolding allBelow
@@ -72,6 +86,24 @@ all-false (suc n) h k l e =
     no-side : (b : Bool) → b && false ≡ false
     no-side true = refl
     no-side false = refl
+
+-- two tests that tell the same of each
+pub all-same : (n : ℕ) (f g : ℕ → Bool) → ((k : ℕ) → k < n → f k ≡ g k) → allBelow n f ≡ allBelow n g
+unfolding allBelow
+all-same zero f g h = refl
+all-same (suc n) f g h = rw (all-same n f g (λ k l. h k (omega arith)), h n (omega arith))
+
+-- the first a, and those from there on
+pub all-split : (a b : ℕ) (h : ℕ → Bool) → allBelow (a + b) h ≡ allBelow a h && allBelow b (λ k. h (a + k))
+unfolding allBelow
+all-split a zero h = rw add-zero (sym (yes-side (allBelow a h)))
+all-split a (suc b) h =
+    let z : a + suc b ≡ suc (a + b) = omega arith in
+    rw (z, allBelow, all-split a b h) (grouped (allBelow a h) (allBelow b (λ k. h (a + k))) (h (a + b)))
+  where
+    grouped : (x y z : Bool) → x && y && z ≡ x && (y && z)
+    grouped true y z = refl
+    grouped false y z = refl
 
 pub count-none : (h : ℕ → Bool) → countBelow 0 h ≡ 0
 unfolding countBelow

@@ -14,12 +14,12 @@ pub const ENTRY: usize = 4;
 
 const ID: usize = 2;
 
-const ENTRIES: usize = 128;
+pub const ENTRIES: usize = 128;
 
 const LOG: usize = ENTRIES * ENTRY;
 
 // A plant is recovering, commit, op number and log length.
-const PLANT: usize = 4;
+pub const PLANT: usize = 4;
 
 const COMMIT: usize = 1;
 

@@ -1,4 +1,5 @@
--- What a tick call that passes leaves known of the words. Assumes nothing.
+-- What a tick call that passes leaves known of the words; and words that fit are judged. Assumes nothing.
+use mathlib.Core.Bool.{true}
 use mathlib.Core.List.{List}
 use mathlib.Core.Path.{_≡_}
 use Prim.Native.Nat.{ℕ}
@@ -28,3 +29,9 @@ tick-known n p l t e =
       tracker-known n t (unless-known BadTracker (trackerFits n t) (d .1)),
       forward-known n p l t (then-pass (commitNumbers c) (judgedEntries c) (a .1) .0),
     )
+
+-- words that fit are judged
+pub taken : (n : ℕ) (p l t : List ℕ) → plantCount n ≡ true → snapshotFits n p l ≡ true → trackerFits n t ≡ true
+    → tickJudged (clusterIn n p l t) ≡ tickAnswer n p l t
+unfolding tickAnswer tickRefusal
+taken n p l t e f g = rw (e, f, g)

@@ -81,6 +81,12 @@ first-pass f i (suc k) e j l m =
           let z : j ≡ i = omega arith in ap f z ∙ b .0
     ]
 
+-- and the other way round
+pub all-pass : (f : ℕ → Answer) (i k : ℕ) → ((j : ℕ) → i ≤ j → j < i + k → f j ≡ Pass) → firstOf f i k ≡ Pass
+unfolding firstOf
+all-pass f i zero h = refl
+all-pass f i (suc k) h = rw (h i (omega arith) (omega arith)) (all-pass f (suc i) k (λ j a b. h j (omega arith) (omega arith)))
+
 -- a refusal's test that passes
 pub unless-known : (x : Refusal) (b : Bool) → unless x b ≡ Pass → b ≡ true
 unless-known x true e = refl

@@ -64,7 +64,7 @@ fn say_name(names: &[u8], which: usize) {
 
 fn say_call(which: usize) {
     say_name(
-        b"parse_script=network_new=network_set_options=network_send=network_take_due=network_pending=network_in_flight=network_tick=journal_mark=journal_send=journal_take_due=journal_set_options=journal_rewind=plants_new=plants_apply=plants_verdict=plants_choose_core=properties_fresh=properties_reboot=properties_tick=properties_end=",
+        b"parse_script=network_new=network_set_options=network_send=network_take_due=network_pending=network_in_flight=network_tick=journal_mark=journal_send=journal_take_due=journal_set_options=journal_rewind=plants_new=plants_apply=plants_verdict=plants_choose_core=properties_fresh=properties_reboot=properties_tick=properties_end=fate=",
         which,
     );
 }
@@ -75,7 +75,7 @@ fn first_outcome(which: usize) -> usize
 {
     match which {
         0 => 1,
-        3 | 9 => 3,
+        3 | 9 | 21 => 3,
         4 | 6 | 10 => 6,
         _ => 0,
     }

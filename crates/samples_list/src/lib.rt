@@ -367,7 +367,7 @@ pub const OUTCOMES: usize = 64;
 
 pub const EACH: usize = 84;
 
-pub const CALLS: usize = 21;
+pub const CALLS: usize = 22;
 
 pub const COUNTS: usize = EACH * CALLS;
 
@@ -391,7 +391,7 @@ fn place_of(refusal: u64, outcome: u64) -> usize
 
 // Where a call that differed is counted; one that did not is counted nowhere.
 fn differing(same: bool) -> usize
-    ensures { λ r. ⌜ r ≤ 1764 ⌝ }
+    ensures { λ r. ⌜ r ≤ 1848 ⌝ }
 {
     if same {
         return COUNTS;

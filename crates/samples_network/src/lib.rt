@@ -1,9 +1,10 @@
-// The calls of the network and of the journal in a sample: the rows that they are lent, the calls, and what is compared after each.
+// The calls of the network and of the journal in a sample, and a message's fate alone: the rows that they are lent, the calls, and what is
+// compared after each.
 use samples_list::Turn;
 ghost use Prim.Native.Nat.{_≤_};
 ghost use lib.ListN.{length};
 
-// Where each row begins among the words that are expected: the list's rows 2 to 11, one behind the other.
+// Where each row begins among the words that are expected: the list's rows 2 to 11 and 21, one behind the other.
 const HEAD: usize = 0;
 
 const RECORDS: usize = HEAD + network_layout::HEAD_WORDS;
@@ -24,7 +25,9 @@ const TOLD_THREE: usize = TOLD_ONE + 1;
 
 const TOLD_FOUR: usize = TOLD_THREE + 3;
 
-const ALL: usize = TOLD_FOUR + 4;
+const TOLD_SIX: usize = TOLD_FOUR + 4;
+
+const ALL: usize = TOLD_SIX + 6;
 
 // How many words the rows have that the boundary does not fix.
 const DRAWN: usize = 64;
@@ -50,6 +53,7 @@ fn start_of(row: u64) -> usize
         9 => TOLD_ONE,
         10 => TOLD_THREE,
         11 => TOLD_FOUR,
+        21 => TOLD_SIX,
         _ => ALL,
     }
 }
@@ -67,6 +71,7 @@ fn size_of(row: u64) -> usize
         9 => 1,
         10 => 3,
         11 => 4,
+        21 => 6,
         _ => 0,
     }
 }
@@ -86,6 +91,7 @@ fn fits(n: [u64; samples_list::NUMBERS]) -> bool {
         10 => (n[3] <= taken) & (n[4] <= journaled),
         11 => n[7] <= journaled,
         12 => n[3] <= journaled,
+        21 => (n[9] <= drawn) & (n[10] <= drawn),
         _ => false,
     }
 }
@@ -93,7 +99,7 @@ fn fits(n: [u64; samples_list::NUMBERS]) -> bool {
 // Whether a step gives words to a row of these; calls only read rows 4, 5 and 6.
 fn is_given(step: Turn) -> bool {
     match samples_list::row_of(step) {
-        2 | 3 | 7 | 8 | 9 | 10 | 11 => true,
+        2 | 3 | 7 | 8 | 9 | 10 | 11 | 21 => true,
         4 | 5 | 6 => samples_list::is_lent(step),
         _ => false,
     }
@@ -215,6 +221,25 @@ fn network_call(
     }
 }
 
+// ---- A message's fate alone
+
+fn fate(n: [u64; samples_list::NUMBERS], expected: &[u64], told: &mut [u64; 6]) -> u64 {
+    let draws = samples_list::part(expected, DRAWS, n[9]);
+    let extras = samples_list::part(expected, EXTRAS, n[10]);
+    bellmantle::bellmantle_fate(
+        n[2],
+        n[3],
+        n[4],
+        n[5],
+        n[6],
+        n[7],
+        n[8],
+        draws,
+        extras,
+        told,
+    )
+}
+
 // ---- The calls of the journal
 
 fn mark(n: [u64; samples_list::NUMBERS], journal: &mut [u64]) -> u64 {
@@ -328,7 +353,11 @@ fn run(
     told_one: &mut [u64; 1],
     told_three: &mut [u64; 3],
     told_four: &mut [u64; 4],
+    told_six: &mut [u64; 6],
 ) -> u64 {
+    if n[0] == 21 {
+        return fate(n, expected, told_six);
+    }
     if n[0] < 8 {
         return network_call(
             n,
@@ -365,6 +394,7 @@ fn is_kept(
     told_one: &[u64],
     told_three: &[u64],
     told_four: &[u64],
+    told_six: &[u64],
 ) -> bool {
     let network = samples_list::agrees(expected, HEAD, head)
         & samples_list::agrees(expected, RECORDS, records);
@@ -372,7 +402,8 @@ fn is_kept(
         & samples_list::agrees(expected, JOURNAL, journal);
     let told = samples_list::agrees(expected, TOLD_ONE, told_one)
         & samples_list::agrees(expected, TOLD_THREE, told_three)
-        & samples_list::agrees(expected, TOLD_FOUR, told_four);
+        & samples_list::agrees(expected, TOLD_FOUR, told_four)
+        & samples_list::agrees(expected, TOLD_SIX, told_six);
     network & written & told
 }
 
@@ -391,8 +422,8 @@ fn is_some(count: u64) -> u64 {
     1
 }
 
-// Of a send: lost, replayed, or queued once.
-fn fate(lost: u64, replayed: u64) -> u64 {
+// Of a send or a fate: lost, replayed, or queued once.
+fn sent(lost: u64, replayed: u64) -> u64 {
     if lost == 1 {
         return 0;
     }
@@ -403,10 +434,11 @@ fn fate(lost: u64, replayed: u64) -> u64 {
 }
 
 // What a call that was accepted came to.
-fn outcome(which: u64, count: u64, lost: u64, replayed: u64) -> u64 {
+fn outcome(which: u64, count: u64, told: [u64; 4], fate: [u64; 6]) -> u64 {
     match which {
-        3 | 9 => fate(lost, replayed),
+        3 | 9 => sent(told[0], told[1]),
         4 | 6 | 10 => is_some(count),
+        21 => sent(fate[0], fate[1]),
         _ => 0,
     }
 }
@@ -422,6 +454,7 @@ fn call(
     told_one: &mut [u64; 1],
     told_three: &mut [u64; 3],
     told_four: &mut [u64; 4],
+    told_six: &mut [u64; 6],
     counts: &mut [u64],
 ) {
     let answer = run(
@@ -434,6 +467,7 @@ fn call(
         told_one,
         told_three,
         told_four,
+        told_six,
     );
     let kept = is_kept(
         expected,
@@ -444,9 +478,10 @@ fn call(
         told_one,
         told_three,
         told_four,
+        told_six,
     );
     let same = kept & (answer == n[1]);
-    let came = outcome(n[0], told_one[0], told_four[0], told_four[1]);
+    let came = outcome(n[0], told_one[0], *told_four, *told_six);
     samples_list::met(counts, n[0], same, refusal_of(n[0], answer), came);
 }
 
@@ -471,6 +506,7 @@ fn lend(
     told_one: &mut [u64],
     told_three: &mut [u64],
     told_four: &mut [u64],
+    told_six: &mut [u64],
 ) {
     if !samples_list::is_lent(step) {
         return;
@@ -486,6 +522,7 @@ fn lend(
         9 => samples_list::carry(expected, from, told_one, span.at, span.count),
         10 => samples_list::carry(expected, from, told_three, span.at, span.count),
         11 => samples_list::carry(expected, from, told_four, span.at, span.count),
+        21 => samples_list::carry(expected, from, told_six, span.at, span.count),
         _ => {}
     }
 }
@@ -502,6 +539,7 @@ fn turned(
     told_one: &mut [u64; 1],
     told_three: &mut [u64; 3],
     told_four: &mut [u64; 4],
+    told_six: &mut [u64; 6],
     counts: &mut [u64],
 ) -> usize
     requires { ⌜ step .next ≤ length (now list) ⌝ }
@@ -518,6 +556,7 @@ fn turned(
             told_one,
             told_three,
             told_four,
+            told_six,
             counts,
         );
         return step.next;
@@ -533,6 +572,7 @@ fn turned(
         told_one,
         told_three,
         told_four,
+        told_six,
     );
     next
 }
@@ -547,6 +587,7 @@ pub fn replay(list: &[u8], from: usize, counts: &mut [u64]) -> usize {
     let mut told_one = [0u64; 1];
     let mut told_three = [0u64; 3];
     let mut told_four = [0u64; 4];
+    let mut told_six = [0u64; 6];
     let mut at = from;
     let mut left = list.len();
     while 0 < left {
@@ -566,6 +607,7 @@ pub fn replay(list: &[u8], from: usize, counts: &mut [u64]) -> usize {
             &mut told_one,
             &mut told_three,
             &mut told_four,
+            &mut told_six,
             counts,
         );
         if next == 0 {

@@ -13,6 +13,7 @@ mod bodies;
 mod journal;
 mod network;
 mod plants;
+mod posted;
 mod properties;
 #[allow(unsafe_code)]
 pub mod raw;
@@ -24,8 +25,8 @@ mod words;
 
 pub use journal::JournaledNetwork;
 pub use network::{
-    Envelope, Kind, Message, MessageSummary, Network, NetworkOptions, Origin, Sent, TickRefused,
-    Ticked,
+    Envelope, Fate, Kind, Message, MessageSummary, Network, NetworkOptions, Origin, Sent,
+    TickRefused, Ticked,
 };
 pub use plants::{Core, Plants, Verdict};
 pub use properties::{Broken, Property, Snapshot, Tracker};

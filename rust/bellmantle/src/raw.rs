@@ -43,6 +43,9 @@ pub mod head {
     pub const DELAYED: usize = 11;
 }
 
+/// The words that tell a message's fate: lost, replayed, draws, extras, the copy's due tick, the original's.
+pub const FATE_WORDS: usize = 6;
+
 /// The words of a message in flight.
 pub const RECORD_WORDS: usize = 8;
 
@@ -215,6 +218,37 @@ pub fn network_send(
             to,
             kind,
             handle,
+            draws.as_ptr(),
+            draws.len(),
+            extras.as_ptr(),
+            extras.len(),
+            told,
+        )
+    }
+}
+
+/// What becomes of a message of a kind that is sent at tick `now` under these options, with no network: 20, 21, 22, 24, 26, 27, 28.
+/// Told: whether it is lost, whether it is replayed, the draws and extras used, when the copy and when the original is due.
+#[inline]
+pub fn fate(
+    options: [u64; 5],
+    now: u64,
+    kind: u64,
+    draws: &[u64],
+    extras: &[u64],
+    told: &mut [u64; FATE_WORDS],
+) -> u64 {
+    let [loss, replay, min, mean, flag] = options;
+    // SAFETY: as the module says of every reference.
+    unsafe {
+        sys::bellmantle_fate(
+            loss,
+            replay,
+            min,
+            mean,
+            flag,
+            now,
+            kind,
             draws.as_ptr(),
             draws.len(),
             extras.as_ptr(),

@@ -178,6 +178,7 @@ impl Refusal {
     }
 
     /// What a call that returns 0 or a refusal's number answers.
+    #[inline]
     pub(crate) fn check(number: u64) -> Result<(), Refusal> {
         match number {
             0 => Ok(()),

@@ -45,6 +45,21 @@ extern "C" {
         told: *mut [u64; 4],
     ) -> u64;
 
+    pub fn bellmantle_fate(
+        loss: u64,
+        replay: u64,
+        min: u64,
+        mean: u64,
+        flag: u64,
+        now: u64,
+        kind: u64,
+        draws: *const u64,
+        draws_len: usize,
+        extras: *const u64,
+        extras_len: usize,
+        told: *mut [u64; 6],
+    ) -> u64;
+
     pub fn bellmantle_network_take_due(
         head: *mut [u64; 12],
         records: *mut [u64; 1024],

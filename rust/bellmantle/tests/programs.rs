@@ -204,10 +204,7 @@ fn redirected(redirections: &str) -> [Command; 2] {
 
 #[test]
 fn an_input_that_cannot_be_read() {
-    tells(
-        redirected("</"),
-        "faults: standard input: Is a directory",
-    );
+    tells(redirected("</"), "faults: standard input: Is a directory");
     tells(
         redirected("<&-"),
         "faults: standard input: Bad file descriptor",
@@ -332,7 +329,10 @@ fn the_wrapper_under_set_e() {
 fn wrong_use_of_the_wrapper() {
     let folder = folder("wrong use of the wrapper");
     for (line, reason) in [
-        ("\"$0\" faults missing.txt", "missing.txt: there is no such file"),
+        (
+            "\"$0\" faults missing.txt",
+            "missing.txt: there is no such file",
+        ),
         ("\"$0\" faults .", ".: it is a folder"),
         ("\"$0\" faults a b", "one file at most"),
         ("\"$0\" faults --quick", "no option --quick"),

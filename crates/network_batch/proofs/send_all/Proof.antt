@@ -1,6 +1,6 @@
 -- `network_batch::send_all` meets its contract: what is left to send, from what has been sent, leaves what the whole leaves. Assumes nothing.
 use Prim.Native.Nat.{ℕ, _+_, _-_, _≤_}
-use mathlib.Core.Path.{_≡_, sym, ap, subst, _∙_}
+use mathlib.Core.Path.{_≡_, refl, sym, ap, subst, _∙_}
 use native.Mathlib.Omega.{arith}
 use borrow.Author.Needs.{needs}
 use mathlib.Core.List.{List}
@@ -10,11 +10,13 @@ use Rattle.nights.specs.Draws.{Decided, decided}
 use Rattle.network_options.specs.Options.{plainOptions}
 use Rattle.network_form.specs.declared.Head.{Head}
 use Rattle.network_form.specs.Calls.{answerIn, headAfter, recordsAfter}
+use Rattle.network_form.proofs.Calling.{records-stay}
 use Rattle.network_send.specs.Sends.{plainLetter, sentOf, sending, sendTells}
 use Rattle.nights.specs.Tests.{done}
 use Rattle.network_words.proofs.Told.{sent-refused, sent-done, sent-told}
 use Rattle.network_batch.specs.Ticks.{stopped, sendsFrom, letterAt, callAt, drawnBy}
 use Rattle.network_batch.proofs.Sending.{Whole, rest, within-left, stays-whole, whole-again, turn-goes, turn-stops, all-sent, ran-stopped}
+use Rattle.network_batch.proofs.Undoing.{Older, older-again, none-yet, one-more}
 use Rattle.network_batch.proofs.Using.{Modest, modest, number-over}
 use Rattle.network_batch.proofs.send_all.Statement.{statement}
 use Rattle.network_batch.proofs.send_all.Tie as tie
@@ -25,7 +27,8 @@ Inv-loop records₀ sends count draws extras me₀ drawn₀ added₀ i₀ record
     × (Whole me records
     × ((drawn ≤ length draws)
     × ((added ≤ length extras)
-    × (sendsFrom sends draws extras count 0 0 0 me₀ records₀ ≡ sendsFrom sends draws extras (count - i) i drawn added me records))))
+    × ((sendsFrom sends draws extras count 0 0 0 me₀ records₀ ≡ sendsFrom sends draws extras (count - i) i drawn added me records)
+    × Older me₀ records₀ me records))))
 
 abbrev μ-loop : tie.MeasureT-loop
 μ-loop records₀ sends count draws extras me₀ drawn₀ added₀ i₀ records me drawn added i = count - i
@@ -106,7 +109,7 @@ loop-holds : tie.Need-loop-holds Inv-loop μ-loop
 loop-holds c =
     let b = c .before .before .before in
     let z : b .args .count - 0 ≡ b .args .count = omega arith in
-    (omega arith, (record { formed = b .pre .1; long = b .pre .0 }, (omega arith, (omega arith, rw z))))
+    (omega arith, (record { formed = b .pre .1; long = b .pre .0 }, (omega arith, (omega arith, (rw z, none-yet _ _ (b .pre .1))))))
 
 letter-at-requires : tie.Need-letter-at-requires Inv-loop μ-loop
 letter-at-requires c κs = omega (arith, c .before .before .before .before .before .pre .2)
@@ -152,11 +155,16 @@ returns c =
     let l = at x .loop in
     let a = start x .args in
     let r = c .before .before .answer .given in
-    ran-stopped _ _ (λ z. number-over (r .0 .0) (sym (c .number-of .ensures) ∙ z))
-    ∙ (ap (λ (k : ℕ). stopped k (l .i)) (c .number-of .ensures)
-    ∙ sym
-    (l .inv .1 .1 .1 .1
-    ∙ turn-stops (a .sends .now) (a .draws .now) (a .extras .now) (a .count) (l .i) (l .drawn) (l .added) (me x) (words x) (in-loop x .loop-test .taken) _ (sent-refused _ _ _ (made x .1 .1) _ (r .1))))
+    let no = sent-refused _ _ _ (made x .1 .1) _ (r .1) in
+    let same = made x .1 .0 ∙ sym (records-stay (me x) (words x) (call x) _ no) in
+    let w : Whole (me x) (x .send-on .last .0) = whole-again _ _ _ _ refl same (l .inv .1 .0) in (
+      ran-stopped _ _ (λ z. number-over (r .0 .0) (sym (c .number-of .ensures) ∙ z))
+          ∙ (ap (λ (k : ℕ). stopped k (l .i)) (c .number-of .ensures)
+          ∙ sym
+          (l .inv .1 .1 .1 .1 .0
+          ∙ turn-stops (a .sends .now) (a .draws .now) (a .extras .now) (a .count) (l .i) (l .drawn) (l .added) (me x) (words x) (in-loop x .loop-test .taken) _ no)),
+      ((w .long, w .formed), older-again _ _ _ _ _ _ refl same (l .inv .1 .1 .1 .1 .1) .olds),
+    )
 
 enum-known-answer-2 : tie.Need-enum-known-answer-2 Inv-loop μ-loop
 enum-known-answer-2 c = search needs
@@ -187,8 +195,11 @@ loop-again c =
           drawn-within y,
           (
             added-within y,
-            l .inv .1 .1 .1 .1
-                ∙ turn-goes (a .sends .now) (a .draws .now) (a .extras .now) (a .count) (l .i) (l .drawn) (l .added) (me x) (words x) (in-loop x .loop-test .taken) (accepted y) _ _ (more-draws y) (more-extras y) _ _ (made x .0) (made x .1 .0),
+            (
+              l .inv .1 .1 .1 .1 .0
+                  ∙ turn-goes (a .sends .now) (a .draws .now) (a .extras .now) (a .count) (l .i) (l .drawn) (l .added) (me x) (words x) (in-loop x .loop-test .taken) (accepted y) _ _ (more-draws y) (more-extras y) _ _ (made x .0) (made x .1 .0),
+              older-again _ _ _ _ _ _ (made x .0) (made x .1 .0) (one-more _ _ _ _ (l .inv .1 .1 .1 .1 .1) _ _ _ (accepted y)),
+            ),
           ),
         ),
       ),
@@ -199,9 +210,12 @@ returns-2 c =
     let l = c .before .loop in
     let b = c .before .before .before .before .before in
     let a = b .args in
-    sym
-    (l .inv .1 .1 .1 .1
-    ∙ all-sent (a .sends .now) (a .draws .now) (a .extras .now) (a .count) (l .i) (l .drawn) (l .added) (l .me) (l .records) (c .loop-test .left))
+    let w = l .inv .1 .0 in (
+      sym
+          (l .inv .1 .1 .1 .1 .0
+          ∙ all-sent (a .sends .now) (a .draws .now) (a .extras .now) (a .count) (l .i) (l .drawn) (l .added) (l .me) (l .records) (c .loop-test .left)),
+      ((w .long, w .formed), l .inv .1 .1 .1 .1 .1 .olds),
+    )
 
 pub send-all-spec : {M : Type 1} → statement M
 send-all-spec =

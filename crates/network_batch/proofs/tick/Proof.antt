@@ -1,23 +1,32 @@
 -- `network_batch::tick` meets its contract: each way out in turn. Assumes nothing.
 use Prim.Native.Nat.{ℕ, _*_, _/_, _≤_}
-use mathlib.Core.Path.{_≡_, sym, ap, _∙_}
+use mathlib.Core.Path.{_≡_, refl, sym, ap, _∙_}
 use mathlib.Core.Bool.{Bool, true, false}
+use mathlib.Core.List.{List}
 use native.Mathlib.Omega.{arith}
 use borrow.Author.Tests.{not-true, not-false}
 use lib.ListN.{length}
-use Rattle.nights.specs.Net.{Change, collect, goodOptions}
-use Rattle.nights.specs.Tests.{done}
+use Rattle.nights.specs.Record.{recs}
+use Rattle.nights.specs.Net.{Change, collect, goodOptions, keep}
+use Rattle.nights.specs.Tests.{done, refused}
+use Rattle.network_queue.specs.Packed.{packed}
+use Rattle.network_drop.specs.Numbered.{upTo}
+use Rattle.network_options.specs.declared.Refusal.{Refusal}
+use Rattle.network_options.specs.Answers.{refusalNumber}
 use Rattle.network_options.specs.Options.{plainOptions}
 use Rattle.network_form.specs.declared.Head.{Head}
 use Rattle.network_form.specs.Forms.{formedIn}
 use Rattle.network_form.specs.Calls.{answerIn}
+use Rattle.network_form.proofs.Calling.{records-stay}
 use Rattle.network_form.proofs.Laws.{stays-good}
+use Rattle.network_take.specs.declared.Counted.the-variants.{Refused as Uncounted}
 use Rattle.network_layout.specs.Layout.{headFits, headIn}
 use Rattle.network_layout.proofs.Heads.{told-fits, head-read}
 use Rattle.network_words.proofs.Told.{taken-refused, taken-done, taken-told}
 use Rattle.network_batch.specs.Ticks.{messageWords, mostMessages, numberAt, all, sendsFrom, ranOf}
 use Rattle.network_batch.proofs.Using.{number-under}
-use Rattle.network_batch.proofs.Sending.{Whole, Stop, stop, leaves, ran-stopped, ran-all}
+use Rattle.network_batch.proofs.Sending.{Whole, Stop, stop, ran-stopped, ran-all}
+use Rattle.network_batch.proofs.Undoing.{undone}
 use Rattle.network_batch.proofs.Ticking.{unread, ill-formed, too-many, broken, send-refused, take-refused, all-done}
 use borrow.Author.Needs.{needs}
 use Rattle.network_batch.proofs.tick.Statement.{statement}
@@ -42,44 +51,54 @@ well c = is-formed (c .before) true (not-false _ (c .if2 .left))
 -- ---- the messages were sent
 
 abbrev start : tie.After-send-all → tie.Start
-start x = x .before .before .before .before .before .before .before .before .before .before .before .before .before .before .before .before .before .before
+start x = x .before .before .before .before .before .before .before .before .before .before .before .before .before .before .before .before .before
 
 abbrev else1 : tie.After-send-all → tie.Else1
-else1 x = x .before .before .before .before .before .before .before .before .before .before
+else1 x = x .before .before .before .before .before .before .before .before .before
 
 abbrev else2 : tie.After-send-all → tie.Else2
-else2 x = x .before .before .before .before .before
+else2 x = x .before .before .before .before
 
 few : (x : tie.After-send-all) → length (start x .args .sends .now) / messageWords ≤ mostMessages
-few x = x .before .before .before .before .if3 .left
+few x = x .before .before .before .if3 .left
 
 even : (x : tie.After-send-all) → length (start x .args .sends .now) ≡ messageWords * (length (start x .args .sends .now) / messageWords)
-even x = omega (arith, x .before .before .before .if4 .left)
+even x = omega (arith, x .before .before .if4 .left)
 
 ran : (x : tie.After-send-all) → let a = start x .args in
     ranOf (x .send-all .result) (x .send-all .last .0) ≡ sendsFrom (a .sends .now) (a .draws .now) (a .extras .now) (length (a .sends .now) / messageWords) 0 0 0 (headIn (a .head .now)) (a .records .now)
 ran x =
     let a = start x .args in
-    x .send-all .ensures
-    ∙ ap (λ (h : Head). sendsFrom (a .sends .now) (a .draws .now) (a .extras .now) (length (a .sends .now) / messageWords) 0 0 0 h (a .records .now)) (head-is (x .before .before .before .before .before .before))
+    x .send-all .ensures .0
+    ∙ ap (λ (h : Head). sendsFrom (a .sends .now) (a .draws .now) (a .extras .now) (length (a .sends .now) / messageWords) 0 0 0 h (a .records .now)) (head-is (x .before .before .before .before .before))
+
+abbrev loaded : tie.After-send-all → Head
+loaded x = else1 x .before .before .load .result .head
+
+whole-before : (x : tie.After-send-all) → Whole (loaded x) (start x .args .records .now)
+whole-before x =
+    let y = else2 x in
+    record { formed = sym (y .before .formed .ensures) ∙ not-false _ (y .if2 .left); long = y .before .before .before .whole .ensures }
 
 stopping : (x : tie.After-send-all) → (x .send-all .result .refusal ≡ 0 → ⊥) → Stop 0 (length (start x .args .sends .now) / messageWords) (x .send-all .result .refusal) (x .send-all .result .place)
 stopping x n =
     let a = start x .args in
     stop (a .sends .now) (a .draws .now) (a .extras .now) (length (a .sends .now) / messageWords) 0 0 0 (headIn (a .head .now)) (a .records .now) _ _ (sym (ran x) ∙ ran-stopped _ _ n)
 
+-- what is left without the newer records is what there was
+came : (x : tie.After-send-all) (v : List ℕ) → v ≡ x .send-all .last .0 → let h = loaded x in
+    (z : List ℕ) → z ≡ packed (keep (upTo (h .seq)) (recs v 0 (x .send-all .result .head .pending))) → z ≡ start x .args .records .now
+came x v e z p =
+    let a = start x .args in
+    let h = loaded x in
+    undone h (a .records .now) (x .send-all .result .head) (x .send-all .last .0) (whole-before x) (x .send-all .ensures .1 .1) z
+    (p ∙ ap (λ (u : List ℕ). packed (keep (upTo (h .seq)) (recs u 0 (x .send-all .result .head .pending)))) e)
+
 -- ---- all of them
 
 all-sent : (c : tie.Else5) → let x = c .before .before in let a = start x .args in let t = x .send-all .result in
     sendsFrom (a .sends .now) (a .draws .now) (a .extras .now) (length (a .sends .now) / messageWords) 0 0 0 (headIn (a .head .now)) (a .records .now) ≡ all (t .head) (x .send-all .last .0) (t .draws) (t .extras)
 all-sent c = sym (ran (c .before .before)) ∙ ran-all _ _ (c .if5 .left)
-
-whole : (c : tie.Else5) → Whole (c .before .before .send-all .result .head) (c .before .before .send-all .last .0)
-whole c =
-    let x = c .before .before in
-    let a = start x .args in
-    leaves (a .sends .now) (a .draws .now) (a .extras .now) (length (a .sends .now) / messageWords) 0 0 0 (headIn (a .head .now)) (a .records .now)
-    (record { formed = well (else2 x); long = x .before .before .before .before .before .before .before .before .whole .ensures }) _ _ _ _ (all-sent c)
 
 -- ---- what was due was taken
 
@@ -97,6 +116,14 @@ call y = collect (start (sent y) .args .now) (length (start (sent y) .args .out 
 
 accepted : (c : tie.After-answer2) → let y = c .before .before .before .before in answerIn (call y) (left y) (sent y .send-all .last .0) ≡ done
 accepted c = taken-done _ _ _ (c .before .before .before .before .take-on .ensures .1 .1 .0) _ (c .answer2 .given .1)
+
+-- ---- or was not
+
+refusing : (y : tie.After-take-on) (r : Refusal) → y .take-on .result .answer ≡ Uncounted r → answerIn (call y) (left y) (sent y .send-all .last .0) ≡ refused (refusalNumber r)
+refusing y r e = taken-refused _ _ _ (y .take-on .ensures .1 .1 .0) r e
+
+untouched : (y : tie.After-take-on) (r : Refusal) → y .take-on .result .answer ≡ Uncounted r → y .take-on .last .0 ≡ sent y .send-all .last .0
+untouched y r e = y .take-on .ensures .1 .0 ∙ sym (records-stay (left y) (sent y .send-all .last .0) (call y) _ (refusing y r e))
 
 load-requires : tie.Need-load-requires
 load-requires c κs = search needs
@@ -144,34 +171,44 @@ returns-4 c =
 
 send-all-requires : tie.Need-send-all-requires
 send-all-requires c κs =
-    let b = c .before .before in
-    (c .before .before .before .before .before .before .before .whole .ensures, sym (b .before .before .before .formed .ensures) ∙ not-false _ (b .before .before .if2 .left), omega (arith, b .if4 .left))
+    let b = c .before in
+    let y = b .before .before in
+    (y .before .before .before .whole .ensures, sym (y .before .formed .ensures) ∙ not-false _ (y .if2 .left), omega (arith, b .if4 .left))
+
+take-back-requires : tie.Need-take-back-requires
+take-back-requires c κs = c .before .before .before .send-all .ensures .1 .0
 
 at-requires-5 : tie.Need-at-requires-5
 at-requires-5 c κs =
-    let x = c .before .before in
-    let t = stopping x (c .if5 .taken) in
+    let x = c .before .before .before .before in
+    let t = stopping x (c .before .before .if5 .taken) in
     (t .number, omega (arith, t .within, few x))
 
 returns-5 : tie.Need-returns-5
 returns-5 c =
-    let x = c .before .before .before in
+    let x = c .before .before .before .before .before in
     let a = start x .args in
-    send-refused (a .head .now) (a .records .now) (a .sends .now) (a .draws .now) (a .extras .now) (a .now) (a .out .now) (a .told .now) (fits (else1 x)) (well (else2 x)) (few x) (even x) _ _ (sym (ran x) ∙ ran-stopped _ _ (c .before .if5 .taken)) _ (c .at5 .ensures)
+    send-refused (a .head .now) (a .records .now) (a .sends .now) (a .draws .now) (a .extras .now) (a .now) (a .out .now) (a .told .now) (fits (else1 x)) (well (else2 x)) (few x) (even x) _ _ (sym (ran x) ∙ ran-stopped _ _ (c .before .before .before .if5 .taken)) _ (c .at5 .ensures) _
+    (came x _ refl _ (c .before .take-back .ensures))
 
 take-on-requires : tie.Need-take-on-requires
-take-on-requires c κs =
-    let w = whole (c .before .before) in (w .long, w .formed)
+take-on-requires c κs = c .before .before .before .before .send-all .ensures .1 .0
 
 enum-known-answer : tie.Need-enum-known-answer
 enum-known-answer c = search needs
+
+take-back-requires-2 : tie.Need-take-back-requires-2
+take-back-requires-2 c κs =
+    let y = c .before .before .before .before .before .before in
+    let g = c .before .before .answer .given in
+    rw (untouched y (g .0 .0) (g .1)) (sent y .send-all .ensures .1 .0)
 
 number-of-requires : tie.Need-number-of-requires
 number-of-requires c κs = search needs
 
 at-requires-6 : tie.Need-at-requires-6
 at-requires-6 c κs =
-    (omega (arith, c .number-of .ensures, number-under (c .before .before .answer .given .0 .0)), few (sent (c .before .before .before .before .before .before)))
+    (omega (arith, c .number-of .ensures, number-under (c .before .before .before .before .answer .given .0 .0)), few (sent (c .before .before .before .before .before .before .before .before)))
 
 enum-known-answer-2 : tie.Need-enum-known-answer-2
 enum-known-answer-2 c = search needs
@@ -186,11 +223,13 @@ same-length c = search needs
 
 returns-6 : tie.Need-returns-6
 returns-6 c =
-    let y = c .before .before .before .before .before .before .before in
+    let y = c .before .before .before .before .before .before .before .before .before in
     let x = sent y in
     let a = start x .args in
-    take-refused (a .head .now) (a .records .now) (a .sends .now) (a .draws .now) (a .extras .now) (a .now) (a .out .now) (a .told .now) (fits (else1 x)) (well (else2 x)) (few x) (even x) (left y) _ _ _ (all-sent (then y)) _ (taken-refused _ _ _ (y .take-on .ensures .1 .1 .0) _ (c .before .before .before .answer .given .1)) _
-    (c .at6 .ensures ∙ ap (λ (k : ℕ). numberAt k (length (a .sends .now) / messageWords)) (c .before .number-of .ensures)) _ (y .take-on .ensures .1 .1 .1)
+    let g = c .before .before .before .before .before .answer .given in
+    take-refused (a .head .now) (a .records .now) (a .sends .now) (a .draws .now) (a .extras .now) (a .now) (a .out .now) (a .told .now) (fits (else1 x)) (well (else2 x)) (few x) (even x) (left y) _ _ _ (all-sent (then y)) _ (refusing y (g .0 .0) (g .1)) _
+    (c .at6 .ensures ∙ ap (λ (k : ℕ). numberAt k (length (a .sends .now) / messageWords)) (c .before .number-of .ensures)) _ _
+    (came x _ (untouched y (g .0 .0) (g .1)) _ (c .before .before .take-back2 .ensures)) (y .take-on .ensures .1 .1 .1)
 
 same-length-2 : tie.Need-same-length-2
 same-length-2 c = search needs
@@ -220,10 +259,12 @@ tick-spec =
     at-requires-4
     returns-4
     send-all-requires
+    take-back-requires
     at-requires-5
     returns-5
     take-on-requires
     enum-known-answer
+    take-back-requires-2
     number-of-requires
     at-requires-6
     enum-known-answer-2

@@ -1,7 +1,6 @@
 -- `properties_agreement::agrees` meets its contract: the entry is compared with the tracker's, or with that of the first plant that committed it.
 -- Assumes nothing.
 use borrow.Author.Needs.{needs}
-use borrow.Author.Tests.{lt-ltb, le-ltb}
 use native.Mathlib.Omega.{arith}
 use mathlib.Core.List.{List}
 use mathlib.Core.Path.{_≡_, ap, _∙_}
@@ -10,9 +9,9 @@ use lib.ListN.{getD}
 use Rattle.properties_snapshots.specs.Cluster.{sameEntry, entryIn, clusterIn}
 use Rattle.properties_snapshots.specs.Layout.{logEntries, commitAt, entryAt, lengthAt, canonicalAt}
 use Rattle.properties_snapshots.specs.Shape.{Snapshot, Forward}
-use Rattle.properties_snapshots.proofs.Held.{canonical-long, canonical-held, entry-held}
-use Rattle.properties_agreement.specs.Agreement.{committer, canonicalEntry, agrees}
-use Rattle.properties_agreement.proofs.Reached.{committer-below, committed-entry}
+use Rattle.properties_snapshots.proofs.Held.{entry-held}
+use Rattle.properties_agreement.specs.Agreement.{committer, agrees}
+use Rattle.properties_agreement.proofs.Reached.{committer-below, canonical-known, canonical-new}
 use Rattle.properties_agreement.proofs.agrees.Statement.{statement}
 use Rattle.properties_agreement.proofs.agrees.Tie as tie
 
@@ -21,15 +20,13 @@ module _ (n : ℕ) (p l t : List ℕ) (s : Snapshot n p l) (f : Forward n p t) (
   within = omega (arith, s .sizes r h, f .within r h)
 
   remembered : i < getD t lengthAt 0 → sameEntry (entryIn t (canonicalAt n i)) (entryIn l (entryAt r i)) ≡ agrees (clusterIn n p l t) r i
-  unfolding agrees canonicalEntry
-  remembered g =
-      rw (canonical-long n p l t, lt-ltb i (getD t lengthAt 0) g, canonical-held n p l t i g, entry-held n p l t r h i (omega (arith, f .within r h)))
+  unfolding agrees
+  remembered g = rw (canonical-known n p l t s f i g, entry-held n p l t r h i (omega (arith, f .within r h)))
 
   new : getD t lengthAt 0 ≤ i → (q : ℕ) → q ≡ committer (clusterIn n p l t) i → sameEntry (entryIn l (entryAt q i)) (entryIn l (entryAt r i)) ≡ agrees
       (clusterIn n p l t) r i
-  unfolding agrees canonicalEntry
-  new g q e =
-      rw (canonical-long n p l t, le-ltb i (getD t lengthAt 0) g, committed-entry n p l t s f i r h k, entry-held n p l t r h i (omega (arith, f .within r h)), e)
+  unfolding agrees
+  new g q e = rw (canonical-new n p l t s f i r h k g, entry-held n p l t r h i (omega (arith, f .within r h)), e)
 
   plant-of : (q : ℕ) → q ≡ committer (clusterIn n p l t) i → q < n
   plant-of q e = omega (arith, committer-below (clusterIn n p l t) i (omega (arith, s .some)))

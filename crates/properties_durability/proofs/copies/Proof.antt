@@ -1,89 +1,34 @@
--- `properties_durability::copies` meets its contract. The loop's invariant: the copies of the plants passed are counted. Assumes nothing.
+-- `properties_durability::copies` meets its contract: the holders of the entry of plant r, which stands in the log words. Assumes nothing.
 use native.Mathlib.Omega.{arith}
-use mathlib.Core.Bool.{Bool}
-use mathlib.Core.List.{List}
-use mathlib.Core.Logic.{⊎-elim}
-use mathlib.Core.Path.{_≡_, sym, ap, _∙_}
-use Prim.Native.Nat.{ℕ, _+_, _-_, _≤_}
+use mathlib.Core.Path.{sym, ap, _∙_}
 use Rattle.properties_snapshots.specs.Below.{countBelow}
-use Rattle.properties_snapshots.specs.Cluster.{entry, clusterIn}
-use Rattle.properties_snapshots.proofs.Below.{count-none, count-in, count-out}
+use Rattle.properties_snapshots.specs.Cluster.{LogEntry, entryIn, clusterIn}
+use Rattle.properties_snapshots.proofs.Held.{entry-held}
 use Rattle.properties_durability.specs.Durability.{holdsCopy, copiesOf}
 use Rattle.properties_durability.proofs.copies.Statement.{statement}
 use Rattle.properties_durability.proofs.copies.Tie as tie
 
-abbrev has : ℕ → List ℕ → List ℕ → List ℕ → ℕ → ℕ → ℕ → Bool
-has n p l t r i = holdsCopy (clusterIn n p l t) i (entry (clusterIn n p l t) r i)
+entry-at-requires : tie.Need-entry-at-requires
+entry-at-requires c κs =
+    let pre = c .before .before .pre in
+    (omega (arith, pre .0 .few, pre .1), omega (arith, pre .2, pre .0 .sizes (c .before .before .args .r) (pre .1)))
 
-abbrev Inv-loop : tie.InvT-loop
-Inv-loop n plants logs r i count₀ q₀ count q = (q ≤ n) × (count ≤ q) × ((t : List ℕ) → count ≡ countBelow q (has n plants logs t r i))
+holders-requires : tie.Need-holders-requires
+holders-requires c κs =
+    let pre = c .before .before .before .pre in
+    let size = pre .0 .sizes (c .before .before .before .args .r) (pre .1) in
+    (pre .0, omega (arith, size, pre .2), omega (arith, size, pre .2, c .entry-at .ensures, pre .0 .logs, pre .1))
 
-abbrev μ-loop : tie.MeasureT-loop
-μ-loop n plants logs r i count₀ q₀ count q = n - q
-
-loop-holds : tie.Need-loop-holds Inv-loop μ-loop
-loop-holds c =
-    let args = c .before .before .args in
-    (omega arith, omega arith, λ t. sym (count-none (has (args .n) (args .plants .now) (args .logs .now) t (args .r) (args .i))))
-
-holds-copy-requires : tie.Need-holds-copy-requires Inv-loop μ-loop
-holds-copy-requires c κs =
-    let pre = c .before .before .before .before .pre in
-    (pre .0, pre .1, pre .2, c .loop-test .taken)
-
-add-count : tie.Need-add-count Inv-loop μ-loop
-add-count c =
-    let pre = c .before .before .before .before .before .before .pre in
-    omega (arith, pre .0 .few)
-
-add-q : tie.Need-add-q Inv-loop μ-loop
-add-q c =
-    let pre = c .before .before .before .before .before .before .pre in
-    omega (arith, pre .0 .few)
-
-loop-less : tie.Need-loop-less Inv-loop μ-loop
-loop-less c = omega arith
-
-loop-again : tie.Need-loop-again Inv-loop μ-loop
-loop-again c =
-    let the-holds-copy = c .before .holds-copy in
-    let a = c .before .before .before .before .before .before .args in
-    let i = c .before .before .before .loop in
-    ⊎-elim
-    (λ w. (
-      omega arith,
-      omega (arith, w .1),
-      λ t.
-          w .1 ∙ (ap (λ (x : ℕ). x + 1) (i .inv .2 t) ∙ sym (count-in (i .q) (has (a .n) (a .plants .now) (a .logs .now) t (a .r) (a .i))
-          (sym (the-holds-copy .ensures t) ∙ w .0 .taken))),
-    ))
-    (λ w. (
-      omega arith,
-      omega (arith, w .1),
-      λ t.
-          w .1 ∙ (i .inv .2 t ∙ sym (count-out (i .q) (has (a .n) (a .plants .now) (a .logs .now) t (a .r) (a .i))
-          (sym (the-holds-copy .ensures t) ∙ w .0 .left))),
-    ))
-    (c .if1 .came)
-
-returns : tie.Need-returns Inv-loop μ-loop
+returns : tie.Need-returns
 unfolding copiesOf
 returns c =
     let a = c .before .before .before .before .args in
-    let i = c .before .loop in
-    let z : i .q ≡ a .n = omega arith in
-    λ t. i .inv .2 t ∙ ap (λ (k : ℕ). countBelow k (has (a .n) (a .plants .now) (a .logs .now) t (a .r) (a .i))) z
+    let pre = c .before .before .before .before .pre in λ t.
+    let k = clusterIn (a .n) (a .plants .now) (a .logs .now) t in
+    c .holders .ensures t
+    ∙ ap (λ (e : LogEntry). countBelow (a .n) (holdsCopy k (a .i) e))
+    (ap (entryIn (a .logs .now)) (c .before .entry-at .ensures)
+    ∙ sym (entry-held (a .n) (a .plants .now) (a .logs .now) t (a .r) (pre .1) (a .i) (pre .2)))
 
 pub copies-spec : {M : Type 1} → statement M
-copies-spec =
-    tie.close
-    (tie.spec
-    Inv-loop
-    μ-loop
-    loop-holds
-    holds-copy-requires
-    add-count
-    add-q
-    loop-less
-    loop-again
-    returns)
+copies-spec = tie.close (tie.spec entry-at-requires holders-requires returns)

@@ -4,12 +4,11 @@ use borrow.Author.Tests.{lt-ltb, le-ltb, eq-eqb, ne-eqb}
 use native.Mathlib.Omega.{arith}
 use mathlib.Core.Bool.{false}
 use mathlib.Core.List.{List}
-use mathlib.Core.Path.{_≡_, sym, _∙_}
-use Prim.Native.Nat.{ℕ, _+_, _*_, _≤_, _<_}
+use mathlib.Core.Path.{_≡_, sym, ap, _∙_}
+use Prim.Native.Nat.{ℕ, _≤_, _<_}
 use lib.ListN.{getD}
 use Rattle.properties_snapshots.specs.Cluster.{LogEntry, sameEntry, entryIn, clusterIn}
-use Rattle.properties_snapshots.specs.Layout.{entryWords, logWords, recoveringAt, sizeAt, entryAt}
-use Rattle.properties_snapshots.specs.Shape.{Snapshot}
+use Rattle.properties_snapshots.specs.Layout.{recoveringAt, sizeAt, entryAt}
 use Rattle.properties_snapshots.proofs.Held.{recovering-held, size-held, entry-held}
 use Rattle.properties_durability.specs.Durability.{holdsCopy}
 use Rattle.properties_durability.proofs.holds_copy.Statement.{statement}
@@ -25,10 +24,9 @@ module _ (n : ℕ) (p l t : List ℕ) (i q : ℕ) (e : LogEntry) (h : q < n) whe
   short a k =
       rw (recovering-held n p l t q h, ne-eqb (getD p (recoveringAt q) 0) 1 a, size-held n p l t q h, le-ltb i (getD p (sizeAt q) 0) k)
 
-  there : (getD p (recoveringAt q) 0 ≡ 1 → ⊥) → i < getD p (sizeAt q) 0 → (f : LogEntry) → e ≡ f
-      → sameEntry (entryIn l (entryAt q i)) f ≡ holdsCopy (clusterIn n p l t) i e q
+  there : (getD p (recoveringAt q) 0 ≡ 1 → ⊥) → i < getD p (sizeAt q) 0 → sameEntry (entryIn l (entryAt q i)) e ≡ holdsCopy (clusterIn n p l t) i e q
   unfolding holdsCopy
-  there a k f g =
+  there a k =
       rw (
         recovering-held n p l t q h,
         ne-eqb (getD p (recoveringAt q) 0) 1 a,
@@ -36,20 +34,15 @@ module _ (n : ℕ) (p l t : List ℕ) (i q : ℕ) (e : LogEntry) (h : q < n) whe
         lt-ltb i (getD p (sizeAt q) 0) k,
         entry-held n p
             l t q h i k,
-        g,
       )
-
--- both entries lie in the log words
-inside : (n : ℕ) (p l : List ℕ) → Snapshot n p l → (r i q : ℕ) → r < n → i < getD p (sizeAt r) 0 → q < n → entryAt q i + entryWords ≤ n * logWords
-inside n p l s r i q h k g = omega (arith, s .sizes r h)
 
 recovering-of-requires : tie.Need-recovering-of-requires
 recovering-of-requires c κs = search needs
 
 returns : tie.Need-returns
 returns c =
-    let pre = c .before .before .before .before .pre in
-    λ t. let a = c .before .before .before .before .args in away (a .n) (a .plants .now) (a .logs .now) t (a .i) (a .q) _ (pre .3)
+    let pre = c .before .before .before .before .before .pre in
+    λ t. let a = c .before .before .before .before .before .args in away (a .n) (a .plants .now) (a .logs .now) t (a .i) (a .q) _ (pre .3)
     (sym (c .before .recovering-of .ensures) ∙ c .if1 .taken)
 
 size-of-requires : tie.Need-size-of-requires
@@ -57,34 +50,32 @@ size-of-requires c κs = search needs
 
 returns-2 : tie.Need-returns-2
 returns-2 c =
-    let pre = c .before .before .before .before .before .before .pre in
-    λ t.
-    let a = c .before .before .before .before .before .before .args in
-    short (a .n) (a .plants .now) (a .logs .now) t (a .i) (a .q) _ (pre .3)
-    (λ e. c .before .before .if1 .left (c .before .before .before .recovering-of .ensures ∙ e)) (omega (arith, c .before .size-of .ensures, c .if2 .taken))
-
-same-logged-requires : tie.Need-same-logged-requires
-same-logged-requires c κs =
-    let pre = c .before .before .before .before .before .before .pre in
-    let a = c .before .before .before .before .before .before .args in
-    let s = pre .0 in (
-      (omega (arith, s .few, pre .3), omega (arith, s .few, pre .1), omega (arith, s .sizes (a .r) (pre .1), pre .2)),
-      (
-        omega (arith, s .logs, inside (a .n) (a .plants .now) (a .logs .now) s (a .r) (a .i) (a .q) (pre .1) (pre .2) (pre .3)),
-        omega (arith, s .logs, inside (a .n) (a .plants .now) (a .logs .now) s (a .r) (a .i) (a .r) (pre .1) (pre .2) (pre .1)),
-      ),
-    )
-
-returns-3 : tie.Need-returns-3
-returns-3 c =
     let pre = c .before .before .before .before .before .before .before .pre in
     λ t.
     let a = c .before .before .before .before .before .before .before .args in
-    c .same-logged .ensures
-    ∙ there (a .n) (a .plants .now) (a .logs .now) t (a .i) (a .q) _ (pre .3)
-    (λ e. c .before .before .before .if1 .left (c .before .before .before .before .recovering-of .ensures ∙ e))
-    (omega (arith, c .before .before .size-of .ensures, c .before .if2 .left)) _
-    (entry-held (a .n) (a .plants .now) (a .logs .now) t (a .r) (pre .1) (a .i) (pre .2))
+    short (a .n) (a .plants .now) (a .logs .now) t (a .i) (a .q) _ (pre .3)
+    (λ e. c .before .before .if1 .left (c .before .before .before .recovering-of .ensures ∙ e)) (omega (arith, c .before .size-of .ensures, c .if2 .taken))
+
+entry-at-requires : tie.Need-entry-at-requires
+entry-at-requires c κs =
+    let pre = c .before .before .before .before .before .before .before .pre in
+    (omega (arith, pre .0 .few, pre .3), omega (arith, pre .1))
+
+same-entry-requires : tie.Need-same-entry-requires
+same-entry-requires c κs =
+    let pre = c .before .before .before .before .before .before .before .before .pre in
+    (omega (arith, c .entry-at .ensures, pre .0 .logs, pre .1, pre .3), pre .2)
+
+returns-3 : tie.Need-returns-3
+returns-3 c =
+    let pre = c .before .before .before .before .before .before .before .before .before .pre in
+    let a = c .before .before .before .before .before .before .before .before .before .args in
+    let size = c .before .before .before .size-of .ensures in
+    let flag = c .before .before .before .before .before .recovering-of .ensures in λ t.
+    c .same-entry .ensures
+    ∙ (ap (λ (k : ℕ). sameEntry (entryIn (a .logs .now) k) (entryIn (a .words .now) (a .at))) (c .before .entry-at .ensures)
+    ∙ there (a .n) (a .plants .now) (a .logs .now) t (a .i) (a .q) _ (pre .3) (λ e. c .before .before .before .before .if1 .left (flag ∙ e))
+    (omega (arith, size, c .before .before .if2 .left)))
 
 pub holds-copy-spec : {M : Type 1} → statement M
 holds-copy-spec =
@@ -94,5 +85,6 @@ holds-copy-spec =
     returns
     size-of-requires
     returns-2
-    same-logged-requires
+    entry-at-requires
+    same-entry-requires
     returns-3)

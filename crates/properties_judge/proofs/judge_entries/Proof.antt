@@ -26,8 +26,8 @@ returns c =
     the-entries .ensures
     ∙ sym (then-stop (overEntries PrefixAgreement k) _ (λ e. no-pass (the-entries .result) (c .match .keys2) (the-entries .ensures ∙ e)))
 
-entries-requires-2 : tie.Need-entries-requires-2
-entries-requires-2 c κs = search needs
+duplicates-requires : tie.Need-duplicates-requires
+duplicates-requires c κs = search needs
 
 enum-told-2 : tie.Need-enum-told-2
 enum-told-2 c = search needs
@@ -37,24 +37,26 @@ unfolding judgedEntries
 returns-2 c =
     let args = c .before .before .before .before .before .before .before .before .before .args in
     let the-entries = c .before .before .before .before .entries in
-    let the-entries2 = c .before .entries2 in
+    let the-duplicates = c .before .duplicates in
     let k = (clusterIn (args .n) (args .plants .now) (args .logs .now) (args .tracker .now)) in
-    the-entries2 .ensures
-    ∙ (sym (then-stop (overEntries NoDuplicates k) (overEntries Durability k) (λ e. no-pass (the-entries2 .result) (c .match2 .keys2)
-    (the-entries2 .ensures ∙ e)))
+    the-duplicates .ensures
+    ∙ (sym (then-stop (overEntries NoDuplicates k) (overEntries Durability k) (λ e. no-pass (the-duplicates .result) (c .match2 .keys2)
+    (the-duplicates .ensures ∙ e)))
     ∙ rw (sym (the-entries .ensures) ∙ c .before .before .enum-told .given .1))
 
-entries-requires-3 : tie.Need-entries-requires-3
-entries-requires-3 c κs = search needs
+durability-requires : tie.Need-durability-requires
+durability-requires c κs =
+    let the-entries = c .before .before .before .before .before .entries in
+    (c .before .before .before .before .before .before .before .before .before .before .pre, (c .before .before .before .before .before .before .needed-copies .ensures, sym (the-entries .ensures) ∙ c .before .before .before .enum-told .given .1))
 
 returns-3 : tie.Need-returns-3
 unfolding judgedEntries
 returns-3 c =
     let the-entries = c .before .before .before .before .before .before .entries in
     let the-enum-told = c .before .before .before .before .enum-told in
-    c .entries3 .ensures ∙ rw (
+    c .durability .ensures ∙ rw (
       sym (the-entries .ensures) ∙ the-enum-told .given .1,
-      sym (c .before .before .before .entries2 .ensures) ∙
+      sym (c .before .before .before .duplicates .ensures) ∙
           c .before .enum-told2 .given .1,
     )
 
@@ -66,8 +68,8 @@ judge-entries-spec =
     entries-requires
     enum-told
     returns
-    entries-requires-2
+    duplicates-requires
     enum-told-2
     returns-2
-    entries-requires-3
+    durability-requires
     returns-3)

@@ -1,14 +1,17 @@
--- `properties_tick::tick` meets its contract: the words are written on a pass alone. Assumes nothing.
+-- `properties_tick::tick` meets its contract: the words are written on a pass alone, and stay where no commit has moved. Assumes nothing.
 use borrow.Author.Needs.{needs}
 use mathlib.Core.List.{List}
 use mathlib.Core.Path.{_≡_, refl, sym, _∙_}
 use Prim.Native.Nat.{ℕ}
 use Rattle.properties_snapshots.specs.Cluster.{clusterIn}
+use Rattle.properties_snapshots.proofs.Held.{commit-held, last-held}
 use Rattle.properties_verdicts.specs.Verdicts.{onPass}
 use Rattle.properties_verdicts.proofs.First.{no-pass}
 use Rattle.properties_remembering.specs.Remembering.{remembered}
+use Rattle.properties_quick.specs.Quick.{NothingNew}
 use Rattle.properties_tick.specs.Calls.{tickAnswer, tickWords}
-use Rattle.properties_tick.proofs.Passed.{tick-known}
+use Rattle.properties_tick.proofs.Passed.{tick-known, taken}
+use Rattle.properties_tick.proofs.Laws.{nothing-new}
 use Rattle.properties_verdicts.specs.declared.Answer.{Answer}
 use Rattle.properties_verdicts.specs.declared.Answer.the-variants.{Pass, Broken, Refused}
 use Rattle.properties_tick.proofs.tick.Statement.{statement}
@@ -28,6 +31,28 @@ module _ (n : ℕ) (p l t : List ℕ) where
       stays (Broken q r i k) h = refl
       stays (Refused x) h = refl
 
+  -- no commit has moved: a pass, and nothing to write
+  module _ (new : NothingNew n p l t) where
+    passes : Pass ≡ tickAnswer n p l t
+    passes = sym (new .passes) ∙ taken n p l t (new .counted) (new .snapshot) (new .tracker)
+
+    unchanged : t ≡ tickWords n p l t
+    unchanged = sym (nothing-new n p l t (sym passes) (λ r h. commit-held n p l t r h ∙ (new .still r h ∙ sym (last-held n p l t r h))))
+
+nothing-new-requires : tie.Need-nothing-new-requires
+nothing-new-requires c κs = search needs
+
+same-length : tie.Need-same-length
+same-length c = search needs
+
+returns : tie.Need-returns
+returns c =
+    let args = c .before .before .before .before .before .before .args in
+    let new = c .before .nothing-new .ensures (c .if1 .taken) in (
+      passes (args .n) (args .plants .now) (args .logs .now) (args .tracker .now) new,
+      unchanged (args .n) (args .plants .now) (args .logs .now) (args .tracker .now) new,
+    )
+
 tick-answer-requires : tie.Need-tick-answer-requires
 tick-answer-requires c κs = search needs
 
@@ -36,16 +61,16 @@ enum-told c = search needs
 
 remember-requires : tie.Need-remember-requires
 remember-requires c κs =
-    let args = c .before .before .before .before .before .before .before .before .args in
+    let args = c .before .before .before .before .before .before .before .before .before .before .before .args in
     tick-known (args .n) (args .plants .now) (args .logs .now) (args .tracker .now)
     (sym (c .before .before .before .tick-answer .ensures) ∙ c .before .enum-told .given .1)
 
-same-length : tie.Need-same-length
-same-length c = search needs
+same-length-2 : tie.Need-same-length-2
+same-length-2 c = search needs
 
-returns : tie.Need-returns
-returns c =
-    let args = c .before .before .before .before .before .before .before .before .before .before .before .args in
+returns-2 : tie.Need-returns-2
+returns-2 c =
+    let args = c .before .before .before .before .before .before .before .before .before .before .before .before .before .before .args in
     let the-tick-answer = c .before .before .before .before .before .before .tick-answer in
     let the-enum-told = c .before .before .before .before .enum-told in (
       the-tick-answer .ensures,
@@ -53,12 +78,12 @@ returns c =
           (sym (the-tick-answer .ensures) ∙ the-enum-told .given .1) (c .before .before .remember .ensures),
     )
 
-same-length-2 : tie.Need-same-length-2
-same-length-2 c = search needs
+same-length-3 : tie.Need-same-length-3
+same-length-3 c = search needs
 
-returns-2 : tie.Need-returns-2
-returns-2 c =
-    let args = c .before .before .before .before .before .before .args in
+returns-3 : tie.Need-returns-3
+returns-3 c =
+    let args = c .before .before .before .before .before .before .before .before .before .args in
     let the-tick-answer = c .before .tick-answer in (
       the-tick-answer .ensures,
       kept (args .n) (args .plants .now) (args .logs .now) (args .tracker .now)
@@ -69,10 +94,13 @@ pub tick-spec : {M : Type 1} → statement M
 tick-spec =
     tie.close
     (tie.spec
+    nothing-new-requires
+    same-length
+    returns
     tick-answer-requires
     enum-told
     remember-requires
-    same-length
-    returns
     same-length-2
-    returns-2)
+    returns-2
+    same-length-3
+    returns-3)

@@ -5,13 +5,12 @@ use mathlib.Core.Bool.{true, false}
 use mathlib.Core.List.{List}
 use mathlib.Core.Path.{_≡_, sym, _∙_}
 use Prim.Native.Nat.{ℕ}
-use Rattle.properties_snapshots.specs.Cluster.{clusterIn}
 use Rattle.basis.specs.Basis.{plantCount}
 use Rattle.basis.proofs.Laws.{between}
 use Rattle.properties_snapshots.specs.Fits.{snapshotFits, trackerFits}
 use Rattle.properties_snapshots.proofs.Known.{snapshot-known, tracker-known}
 use Rattle.properties_tick.specs.Calls.{tickRefusal, tickAnswer}
-use Rattle.properties_judge.specs.Ticks.{tickJudged}
+use Rattle.properties_tick.proofs.Passed.{taken}
 use Rattle.properties_verdicts.specs.declared.Answer.the-variants.{Refused}
 use Rattle.properties_verdicts.specs.declared.Refusal.the-variants.{PlantCount, BadSnapshot, BadTracker}
 use Rattle.properties_tick.proofs.tick_answer.Statement.{statement}
@@ -29,10 +28,6 @@ module _ (n : ℕ) (p l t : List ℕ) where
   untracked : plantCount n ≡ true → snapshotFits n p l ≡ true → trackerFits n t ≡ false → Refused BadTracker ≡ tickAnswer n p l t
   unfolding tickAnswer tickRefusal
   untracked e f g = rw (e, f, g)
-
-  taken : plantCount n ≡ true → snapshotFits n p l ≡ true → trackerFits n t ≡ true → tickJudged (clusterIn n p l t) ≡ tickAnswer n p l t
-  unfolding tickAnswer tickRefusal
-  taken e f g = rw (e, f, g)
 
 plant-count-requires : tie.Need-plant-count-requires
 plant-count-requires c κs = search needs

@@ -6,10 +6,10 @@ use Rattle.samples_network.proofs.replay.Statement.{statement}
 use Rattle.samples_network.proofs.replay.Tie as tie
 
 abbrev Inv-loop : tie.InvT-loop
-Inv-loop list from counts₀ expected₀ head₀ records₀ out₀ journal₀ told-one₀ told-three₀ told-four₀ at₀ left₀ counts expected head records out journal told-one told-three told-four at left = length counts ≡ length counts₀
+Inv-loop list from counts₀ expected₀ head₀ records₀ out₀ journal₀ told-one₀ told-three₀ told-four₀ told-six₀ at₀ left₀ counts expected head records out journal told-one told-three told-four told-six at left = length counts ≡ length counts₀
 
 abbrev μ-loop : tie.MeasureT-loop
-μ-loop list from counts₀ expected₀ head₀ records₀ out₀ journal₀ told-one₀ told-three₀ told-four₀ at₀ left₀ counts expected head records out journal told-one told-three told-four at left = left
+μ-loop list from counts₀ expected₀ head₀ records₀ out₀ journal₀ told-one₀ told-three₀ told-four₀ told-six₀ at₀ left₀ counts expected head records out journal told-one told-three told-four told-six at left = left
 
 loop-holds : tie.Need-loop-holds Inv-loop μ-loop
 loop-holds c = search needs

@@ -1,7 +1,7 @@
 //! The network through its lent entry points, beside the Rust's. Each call starts from the same network, put back before it.
 
-use crate::timing::{both, timed, Row};
-use bellmantle::{NetworkOptions, Words};
+use crate::timing::{alone, both, timed, Row};
+use bellmantle::{Kind, NetworkOptions, Words};
 use nights::extended::{self, Envelope, Network, Origin};
 use nights::state_machine::Op;
 use rand::SeedableRng;
@@ -24,6 +24,8 @@ pub fn rows() -> Vec<Row> {
         rows.push(tick(pending));
     }
     rows.push(one_by_one(32));
+    rows.extend(fates());
+    rows.extend([8, 32, 64, 118].map(posted));
     rows.extend([32, 127].map(journaled));
     rows.push(rewind(32));
     rows
@@ -248,6 +250,100 @@ fn one_by_one(pending: usize) -> Row {
             .0
         },
     )
+}
+
+/// A message's fate alone: ours decides it with no network, which the Rust can't.
+fn fates() -> [Row; 2] {
+    let perfect = NetworkOptions::perfect();
+    let half = NetworkOptions {
+        packet_loss_probability: 0.5,
+        packet_replay_probability: 0.5,
+        one_way_delay_min: 2,
+        one_way_delay_mean: 10,
+        fault_client_messages: false,
+    };
+    let kind = Kind::Prepare as u64;
+    let draws = [1 << 63, 0];
+    let extras = [5, 0];
+    assert!(half.fate(10, kind, &draws, &extras).is_ok());
+    [
+        alone("fate, a perfect network", 2_000, || {
+            perfect.fate(10, kind, &[], &[])
+        }),
+        alone("fate, replayed with two delays", 2_000, || {
+            half.fate(10, kind, &draws, &extras)
+        }),
+    ]
+}
+
+/// The safe crate's network with so many in flight, all of them queued.
+fn safe(pending: usize) -> bellmantle::Network<Message<Op>> {
+    let mut network =
+        bellmantle::Network::new(NetworkOptions::perfect()).expect("the options are good");
+    for place in 0..=pending as u64 {
+        let due = if place == 0 {
+            0
+        } else {
+            1 + place * 7 % SPREAD
+        };
+        safe_send(&mut network, due, message(place));
+    }
+    // A take that has something due queues what was sent before it.
+    assert_eq!(network.take_due(0).expect("there is room").len(), 1);
+    network
+}
+
+fn safe_send(network: &mut bellmantle::Network<Message<Op>>, due: u64, message: Message<Op>) {
+    let from = bellmantle::Origin::Replica(1);
+    let sent = network.send(due, from, 2, Kind::PrepareOk, message, &[], &[]);
+    assert_eq!(sent.expect("there is room").copies(), 1);
+}
+
+fn safe_tick(
+    network: &mut bellmantle::Network<Message<Op>>,
+    messages: Vec<(u64, Message<Op>)>,
+) -> Vec<bellmantle::Envelope<Message<Op>>> {
+    for (due, message) in messages {
+        safe_send(network, due, message);
+    }
+    network.take_due(1).expect("there is room")
+}
+
+/// Ten sends and a take through the safe crate, bodies included; a fresh network each time.
+fn posted(pending: usize) -> Row {
+    let (mut rust, _) = networks(pending + 1);
+    rust.take_due(0);
+    let mut rng = ChaCha8Rng::from_seed([0; 32]);
+    let mut copy = rust.copy();
+    let mut network = safe(pending);
+    let expected = rust_tick(&mut copy, &mut rng, messages());
+    same_bodies(&expected, &safe_tick(&mut network, messages()));
+    assert!(!expected.is_empty() && network.pending() == copy.pending());
+    same_bodies(
+        &copy.take_due(20),
+        &network.take_due(20).expect("there is room"),
+    );
+    both(
+        format!("ten sends and a take through the safe crate, {pending} pending"),
+        TIMES / 4,
+        || {
+            let (mut copy, messages) = (rust.copy(), messages());
+            timed(|| rust_tick(&mut copy, &mut rng, messages)).0
+        },
+        || {
+            let (mut network, messages) = (safe(pending), messages());
+            timed(|| safe_tick(&mut network, messages)).0
+        },
+    )
+}
+
+fn same_bodies(expected: &[Envelope], seen: &[bellmantle::Envelope<Message<Op>>]) {
+    let told = |at: u64, due: u64, message: &Message<Op>| format!("{at} {due} {message:?}");
+    let expected = expected
+        .iter()
+        .map(|e| told(e.sent_at, e.due_at, &e.message));
+    let seen = seen.iter().map(|e| told(e.sent_at, e.due_at, &e.message));
+    assert!(expected.eq(seen));
 }
 
 /// A send that can be undone; the Rust's way back is a copy made before.

@@ -1,4 +1,4 @@
-//! Fault scripts of 64 KiB.
+//! Fault scripts of 64 KiB, and short ones.
 
 use crate::timing::{both, timed, Row};
 use bellmantle::EVENT_WORDS;
@@ -6,26 +6,41 @@ use nights::original;
 
 const BYTES: usize = 65_536;
 const TIMES: usize = 400;
+/// Lines of the short ones, and how often each is parsed.
+const SHORT: [(&str, usize); 3] = [
+    ("three lines", 3),
+    ("ten lines", 10),
+    ("a hundred lines", 100),
+];
+const SHORT_TIMES: usize = 10_000;
 
 pub fn rows() -> Vec<Row> {
-    let rising = script(|line| line);
-    let falling = script(|line| 99_999 - line);
+    let rising = script(BYTES, |line| line);
+    let falling = script(BYTES, |line| 99_999 - line);
     let comments = "# the copper limit of a night\n".repeat(BYTES / 30);
     let texts = [
-        ("in file order", rising),
-        ("in falling order", falling),
-        ("of comments", comments),
+        ("64 KiB in file order", rising),
+        ("64 KiB in falling order", falling),
+        ("64 KiB of comments", comments),
     ];
-    texts
+    let long = texts
         .iter()
-        .flat_map(|(name, text)| [events(name, text), words(name, text)])
-        .collect()
+        .flat_map(|(name, text)| [events(name, text, TIMES), words(name, text, TIMES)]);
+    let short = SHORT.iter().flat_map(|&(name, lines)| {
+        let text = script(lines, |line| 17 * line % 100);
+        [
+            events(name, &text, SHORT_TIMES),
+            words(name, &text, SHORT_TIMES),
+        ]
+    });
+    long.chain(short).collect()
 }
 
-fn script(tick: impl Fn(usize) -> usize) -> String {
+/// So many lines at most, and no more than fit.
+fn script(lines: usize, tick: impl Fn(usize) -> usize) -> String {
     let names = ["crash", "restart", "reboot", "partition", "heal"];
     let mut text = String::new();
-    for line in 0.. {
+    for line in 0..lines {
         let next = format!("{} {} {}\n", tick(line), names[line % 5], line % 3);
         if text.len() + next.len() > BYTES {
             break;
@@ -36,7 +51,7 @@ fn script(tick: impl Fn(usize) -> usize) -> String {
 }
 
 /// Both to a vector of events.
-fn events(name: &str, text: &str) -> Row {
+fn events(name: &str, text: &str, times: usize) -> Row {
     let expected = told(text);
     let rust = || timed(|| original::parse_script(text).expect("the script is good")).0;
     let ours = || {
@@ -49,15 +64,15 @@ fn events(name: &str, text: &str) -> Row {
         time
     };
     both(
-        format!("parse_script, 64 KiB {name}, to a vector"),
-        TIMES,
+        format!("parse_script, {name}, to a vector"),
+        times,
         rust,
         ours,
     )
 }
 
 /// Ours to lent words, which are not cleared first.
-fn words(name: &str, text: &str) -> Row {
+fn words(name: &str, text: &str, times: usize) -> Row {
     let expected = told(text);
     let mut lent = vec![0; BYTES / 9 * EVENT_WORDS];
     let rust = || timed(|| original::parse_script(text).expect("the script is good")).0;
@@ -68,7 +83,7 @@ fn words(name: &str, text: &str) -> Row {
     };
     both(
         format!("the same, ours to lent words, {name}"),
-        TIMES,
+        times,
         rust,
         ours,
     )

@@ -26,28 +26,77 @@ pub fn timed<R>(call: impl FnOnce() -> R) -> (Duration, R) {
     (start.elapsed(), answer)
 }
 
+/// The CPU time that this thread has taken, which other work on the machine does not lengthen.
+pub fn thread_time() -> Duration {
+    let mut time = libc::timespec {
+        tv_sec: 0,
+        tv_nsec: 0,
+    };
+    // SAFETY: the pointer is of a timespec that is ours.
+    let failed = unsafe { libc::clock_gettime(libc::CLOCK_THREAD_CPUTIME_ID, &mut time) };
+    assert_eq!(failed, 0);
+    Duration::new(time.tv_sec as u64, time.tv_nsec as u32)
+}
+
 /// What the timer itself takes, which is taken off every time.
 pub fn timer_cost() -> f64 {
     spread((0..20_000).map(|_| timed(|| ()).0).collect(), 0.0).median
 }
 
-/// Both sides in turn, so that a disturbance meets both. Each closure prepares, times its call, and checks its answer.
-pub fn both(
-    what: impl Into<String>,
+/// Both sides in turn, so that a disturbance meets both; the first tenth is left out.
+pub fn in_turn<T>(
     times: usize,
-    mut rust: impl FnMut() -> Duration,
-    mut ours: impl FnMut() -> Duration,
-) -> Row {
-    let cost = timer_cost();
+    mut rust: impl FnMut() -> T,
+    mut ours: impl FnMut() -> T,
+) -> (Vec<T>, Vec<T>) {
     let mut sides = (Vec::new(), Vec::new());
     for _ in 0..times + times / 10 {
         sides.0.push(rust());
         sides.1.push(ours());
     }
+    (sides.0.split_off(times / 10), sides.1.split_off(times / 10))
+}
+
+/// A row of both sides in turn. Each closure prepares, times its call, and checks its answer.
+pub fn both(
+    what: impl Into<String>,
+    times: usize,
+    rust: impl FnMut() -> Duration,
+    ours: impl FnMut() -> Duration,
+) -> Row {
+    let cost = timer_cost();
+    let (rust, ours) = in_turn(times, rust, ours);
     Row {
         what: what.into(),
-        rust: Some(spread(sides.0.split_off(times / 10), cost)),
-        ours: spread(sides.1.split_off(times / 10), cost),
+        rust: Some(spread(rust, cost)),
+        ours: spread(ours, cost),
+    }
+}
+
+/// A row of times that were measured already.
+pub fn row(what: impl Into<String>, rust: Vec<Duration>, ours: Vec<Duration>) -> Row {
+    Row {
+        what: what.into(),
+        rust: Some(spread(rust, 0.0)),
+        ours: spread(ours, 0.0),
+    }
+}
+
+/// A short call of ours alone, which the Rust has no like of: a hundred of them are timed together.
+pub fn alone<R>(what: impl Into<String>, times: usize, mut call: impl FnMut() -> R) -> Row {
+    let mut hundred = || {
+        let (time, ()) = timed(|| {
+            for _ in 0..100 {
+                black_box(call());
+            }
+        });
+        time / 100
+    };
+    let found: Vec<Duration> = (0..times).map(|_| hundred()).collect();
+    Row {
+        what: what.into(),
+        rust: None,
+        ours: spread(found, 0.0),
     }
 }
 

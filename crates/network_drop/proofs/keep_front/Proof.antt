@@ -1,11 +1,11 @@
--- `journal_undo::keep_front` meets its contract: the walk of `Keeping`. Assumes nothing.
+-- `network_drop::keep_front` meets its contract: the walk of `Keeping`. Assumes nothing.
 use Prim.Native.Nat.{_-_, _≤_}
 use mathlib.Core.Path.{_≡_, _∙_}
 use mathlib.Core.Logic.{⊎-elim}
 use native.Mathlib.Omega.{arith}
-use Rattle.journal_undo.proofs.Keeping.{Moved, start, same-size, pass-over, move-up}
-use Rattle.journal_undo.proofs.keep_front.Statement.{statement}
-use Rattle.journal_undo.proofs.keep_front.Tie as tie
+use Rattle.network_drop.proofs.Keeping.{Moved, start, same-size, pass-over, move-up}
+use Rattle.network_drop.proofs.keep_front.Statement.{statement}
+use Rattle.network_drop.proofs.keep_front.Tie as tie
 
 abbrev Inv-loop : tie.InvT-loop
 Inv-loop w₀ n last m₀ i₀ w m i = (i ≤ n) × Moved w₀ w last m i

@@ -13,7 +13,7 @@ use Rattle.nights.specs.Net.{keep}
 use Rattle.nights.proofs.Order.{keep-append, length-split}
 use Rattle.nights.proofs.Undo.{length-recordWords}
 use Rattle.network_queue.proofs.Inserting.{length-recs}
-use Rattle.journal_undo.specs.Undone.{upTo}
+use Rattle.network_drop.specs.Numbered.{upTo}
 
 recs-snoc : (w : List ℕ) (b i : ℕ) → recs w b (suc i) ≡ recs w b i ++ (recordAt w (b + i * 8) ∷ [])
 unfolding recs

@@ -1,10 +1,10 @@
--- `journal_undo::drop_above` meets its contract: what `keep_front` leaves behind the records kept is cleared. Assumes nothing.
+-- `network_drop::drop_above` meets its contract: what `keep_front` leaves behind the records kept is cleared. Assumes nothing.
 use mathlib.Core.Path.{_∙_}
 use native.Mathlib.Omega.{arith}
 use borrow.Author.Needs.{needs}
-use Rattle.journal_undo.proofs.Keeping.{Moved, ended, same-size, cleared}
-use Rattle.journal_undo.proofs.drop_above.Statement.{statement}
-use Rattle.journal_undo.proofs.drop_above.Tie as tie
+use Rattle.network_drop.proofs.Keeping.{Moved, ended, same-size, cleared}
+use Rattle.network_drop.proofs.drop_above.Statement.{statement}
+use Rattle.network_drop.proofs.drop_above.Tie as tie
 
 moved : (c : tie.After-keep-front) → Moved (c .before .before .args .w .now) (c .keep-front .last .0) (c .before .before .args .last) (c .keep-front .result) (c .before .before .args .n)
 moved c = ended _ _ _ _ _ (c .keep-front .ensures .0) (c .keep-front .ensures .1)
