@@ -1,9 +1,11 @@
--- What a tick leaves, by where it ends: at the network's test, at the list's, at a send, at the take, or done. Assumes nothing.
+-- What a batch leaves, by where it ends: at the network's test, at the list's, at a send, at the take, or done. Assumes nothing.
 use Prim.Native.Nat.{ℕ, _*_, _/_, _≤_, _<_}
-use mathlib.Core.Path.{_≡_, sym, ap, _∙_}
-use mathlib.Core.Bool.{true, false}
+use mathlib.Core.Path.{_≡_, refl, sym, ap, _∙_}
+use mathlib.Core.Bool.{Bool, true, false, cond}
 use mathlib.Core.List.{List, [], _∷_}
-use borrow.Author.Tests.{le-leb, lt-leb, eq-eqb, ne-eqb}
+use native.Mathlib.Omega.{arith}
+use borrow.Author.Tests.{le-leb, lt-leb, leb-true, eq-eqb, ne-eqb}
+use lib.Dec.{leb, eqb}
 use lib.ListN.{length}
 use Rattle.nights.specs.Net.{collect}
 use Rattle.nights.specs.Tests.{Answer, done, refused, ifDone}
@@ -12,24 +14,89 @@ use Rattle.network_form.specs.Forms.{formedIn}
 use Rattle.network_form.specs.Calls.{answerIn, headAfter, recordsAfter, formAnswer}
 use Rattle.network_form.proofs.Calling.{form-ill, form-well}
 use Rattle.network_take.specs.Takes.{dueIn, takeGives}
-use Rattle.network_layout.specs.Layout.{headFits, headIn, headWords}
+use Rattle.network_layout.specs.Layout.{headFits, headIn, headWords, ifHead}
 use Rattle.network_words.specs.Calls.{Rows}
 use Rattle.network_layout.proofs.Heads.{no-head, a-head}
-use Rattle.network_batch.specs.Ticks.{messageWords, mostMessages, numberAt, Ran, all, stopped, sendsFrom, refusedAt, takingLast, afterSends, batchTested, ticked}
+use Rattle.network_batch.specs.declared.Run.{Run}
+use Rattle.network_batch.specs.Ticks.{messageWords, mostMessages, numberAt, Ran, all, stopped, sendsFrom, refusedAt, takingLast, afterSends, batchTested, ticked, sendsTested, batchRan, afterQueue, queued, ranOf}
+use Rattle.network_batch.proofs.Sending.{ran-stopped}
+
+-- ---- the tests and the sends
+
+module _ (h r sends draws extras : List ℕ) where
+  abbrev whole : Ran
+  whole = batchRan h r sends draws extras
+
+  abbrev count : ℕ
+  count = length sends / messageWords
+
+  pub unread : headFits h ≡ false → whole ≡ stopped 23 0
+  unfolding sendsTested
+  unread f = ap (sendsTested h r sends draws extras) (no-head h (formAnswer (headIn h) r) f)
+
+  module _ (f : headFits h ≡ true) where
+    pub ill-formed : formedIn (headIn h) r ≡ false → whole ≡ stopped 23 0
+    unfolding sendsTested
+    ill-formed w = ap (sendsTested h r sends draws extras) (a-head h (formAnswer (headIn h) r) f ∙ form-ill (headIn h) r w)
+
+    module _ (w : formedIn (headIn h) r ≡ true) where
+      opens : whole ≡ sendsTested h r sends draws extras done
+      opens = ap (sendsTested h r sends draws extras) (a-head h (formAnswer (headIn h) r) f ∙ form-well (headIn h) r w)
+
+      pub too-many : mostMessages < count → whole ≡ stopped 24 mostMessages
+      unfolding sendsTested
+      too-many c = opens ∙ rw (lt-leb count mostMessages c)
+
+      module _ (c : count ≤ mostMessages) where
+        pub broken : (length sends ≡ messageWords * count → ⊥) → whole ≡ stopped 24 count
+        unfolding sendsTested
+        broken e = opens ∙ rw (le-leb count mostMessages c, ne-eqb (length sends) (messageWords * count) e)
+
+        pub sends-run : length sends ≡ messageWords * count → whole ≡ sendsFrom sends draws extras count 0 0 0 (headIn h) r
+        unfolding sendsTested
+        sends-run e = opens ∙ rw (le-leb count mostMessages c, eq-eqb (length sends) (messageWords * count) e)
+
+  -- a list that was sent is not too long
+  module _ (t : Head) (v : List ℕ) (d x : ℕ) where
+    not-all : {A : Type 0} (k p : ℕ) → stopped k p ≡ all t v d x → A
+    not-all k p e = let z : _≡_ {A = ℕ} 0 1 = cc in absurd (omega arith)
+
+    pub few : whole ≡ all t v d x → count ≤ mostMessages
+    unfolding sendsTested
+    few e = go (ifHead h (formAnswer (headIn h) r)) e
+      where
+        within : (b : Bool) (more : Ran) → leb count mostMessages ≡ b → cond b more (stopped 24 mostMessages) ≡ all t v d x → count ≤ mostMessages
+        within true more p q = leb-true count mostMessages p
+        within false more p q = not-all 24 mostMessages q
+
+        go : (a : Answer) → sendsTested h r sends draws extras a ≡ all t v d x → count ≤ mostMessages
+        go (refused k) q = not-all k 0 q
+        go done q = within (leb count mostMessages) _ refl q
+
+-- a run that is refused before its first send
+pub unsent-run : {A : Type 0} (t : Run) (w : List ℕ) (ran : Ran) (k p : ℕ) → (t .refusal ≡ k) × (t .place ≡ p) → ran ≡ stopped k p
+    → (k ≡ 0 → ⊥) → k ≤ 33 → p ≤ mostMessages
+    → (ranOf t w ≡ ran) × (((t .refusal ≡ 0 → ⊥) → (w ≡ w) × (t .refusal ≤ 33) × (t .place ≤ mostMessages)) × (t .refusal ≡ 0 → A))
+unsent-run t w ran k p e g n s m = (
+  ran-stopped t w (λ z. n (sym (e .0) ∙ z)) ∙ rw (e .0, e .1) (sym g),
+  ((λ _. (refl, omega (arith, e .0, s), omega (arith, e .1, m))), λ z. absurd (n (sym (e .0) ∙ z))),
+)
+
+-- ---- and then a take
 
 module _ (h r sends draws extras : List ℕ) (now : ℕ) (out told : List ℕ) where
-  abbrev whole : Rows
-  whole = ticked h r sends draws extras now out told
+  abbrev tick : Rows
+  tick = ticked h r sends draws extras now out told
 
-  abbrev refuse : (number place : ℕ) → Rows
-  refuse k p = refusedAt h r sends draws extras now out told k p
+  abbrev ran : Ran
+  ran = batchRan h r sends draws extras
 
   -- the number and the lent rows after it
   abbrev pub Ticked : ℕ → List ℕ → List ℕ → List ℕ → List ℕ → Type 0
   Ticked n a b o t =
-      (n ≡ whole .number) × ((a ≡ whole .head) × ((b ≡ whole .records) × ((o ≡ whole .out) × (t ≡ whole .told))))
+      (n ≡ tick .number) × ((a ≡ tick .head) × ((b ≡ tick .records) × ((o ≡ tick .out) × (t ≡ tick .told))))
 
-  leaves : (t : Rows) → whole ≡ t → Ticked (t .number) (t .head) (t .records) (t .out) (t .told)
+  leaves : (t : Rows) → tick ≡ t → Ticked (t .number) (t .head) (t .records) (t .out) (t .told)
   leaves t e = (
     ap (λ (x : Rows). x .number) (sym e),
     (
@@ -38,75 +105,73 @@ module _ (h r sends draws extras : List ℕ) (now : ℕ) (out told : List ℕ) w
     ),
   )
 
-  refuses : (k p : ℕ) → whole ≡ refuse k p → (n : ℕ) → n ≡ numberAt k p → Ticked n h r out told
-  refuses k p e n q = let l = leaves (refuse k p) e in (q ∙ l .0, l .1)
+  refuses : (k p : ℕ) → tick ≡ refusedAt h r sends draws extras now out told k p
+      → (n : ℕ) → n ≡ numberAt k p → (b : List ℕ) → b ≡ r → Ticked n h b out told
+  refuses k p e n q b y =
+      let l = leaves (refusedAt h r sends draws extras now out told k p) e in (q ∙ l .0, (l .1 .0, (y ∙ l .1 .1 .0, l .1 .1 .1)))
 
-  pub unread : headFits h ≡ false → (n : ℕ) → n ≡ numberAt 23 0 → Ticked n h r out told
-  unfolding batchTested
-  unread f = refuses 23 0 (ap (batchTested h r sends draws extras now out told) (no-head h (formAnswer (headIn h) r) f))
+  -- the tests and the sends come first
+  sends-first : tick ≡ afterSends h r sends draws extras now out told ran
+  unfolding batchTested sendsTested afterSends
+  sends-first = go (ifHead h (formAnswer (headIn h) r))
+    where
+      spread : (b c : Bool) (more : Ran) (k p : ℕ)
+          → cond b (cond c (afterSends h r sends draws extras now out told more) (refusedAt h r sends draws extras now out told 24 k)) (refusedAt h r sends draws extras now out told 24 p)
+          ≡ afterSends h r sends draws extras now out told (cond b (cond c more (stopped 24 k)) (stopped 24 p))
+      spread true true more k p = refl
+      spread true false more k p = refl
+      spread false c more k p = refl
 
-  module _ (f : headFits h ≡ true) where
-    pub ill-formed : formedIn (headIn h) r ≡ false → (n : ℕ) → n ≡ numberAt 23 0 → Ticked n h r out told
-    unfolding batchTested
-    ill-formed w =
-        refuses 23 0
-        (ap (batchTested h r sends draws extras now out told) (a-head h (formAnswer (headIn h) r) f ∙ form-ill (headIn h) r w))
+      go : (a : Answer) → batchTested h r sends draws extras now out told a ≡ afterSends h r sends draws extras now out told (sendsTested h r sends draws extras a)
+      go (refused k) = refl
+      go done =
+          spread (leb (length sends / messageWords) mostMessages) (eqb (length sends) (messageWords * (length sends / messageWords)))
+          (sendsFrom sends draws extras (length sends / messageWords) 0 0 0 (headIn h) r) (length sends / messageWords) mostMessages
 
-    module _ (w : formedIn (headIn h) r ≡ true) where
-      opens : whole ≡ batchTested h r sends draws extras now out told done
-      opens = ap (batchTested h r sends draws extras now out told) (a-head h (formAnswer (headIn h) r) f ∙ form-well (headIn h) r w)
+  pub send-refused : (k p : ℕ) → ran ≡ stopped k p → (n : ℕ) → n ≡ numberAt k p → (b : List ℕ) → b ≡ r → Ticked n h b out told
+  unfolding afterSends
+  send-refused k p q = refuses k p (sends-first ∙ ap (afterSends h r sends draws extras now out told) q)
 
-      pub too-many : mostMessages < length sends / messageWords → (n : ℕ) → n ≡ numberAt 24 mostMessages → Ticked n h r out told
-      unfolding batchTested
-      too-many c = refuses 24 mostMessages (opens ∙ rw (lt-leb (length sends / messageWords) mostMessages c))
+  module _ (t : Head) (v : List ℕ) (d x : ℕ) (q : ran ≡ all t v d x) where
+    takes-then : tick ≡ takingLast h r sends draws extras now out told (answerIn (collect now (length out)) t v) t v d x
+    unfolding afterSends
+    takes-then = sends-first ∙ ap (afterSends h r sends draws extras now out told) q
 
-      module _ (c : length sends / messageWords ≤ mostMessages) where
-        pub broken : (length sends ≡ messageWords * (length sends / messageWords) → ⊥) → (n : ℕ) → n ≡ numberAt 24 (length sends / messageWords) → Ticked n h r out told
-        unfolding batchTested
-        broken e =
-            refuses 24 (length sends / messageWords)
-            (opens
-            ∙ rw (le-leb (length sends / messageWords) mostMessages c, ne-eqb (length sends) (messageWords * (length sends / messageWords)) e))
+    pub take-refused : (k : ℕ) → answerIn (collect now (length out)) t v ≡ refused k → (n : ℕ) → n ≡ numberAt k (length sends / messageWords)
+        → (b o : List ℕ) → b ≡ r → o ≡ takeGives now out t v → Ticked n h b o told
+    unfolding takingLast ifDone
+    take-refused k a n m b o y u =
+        let l = refuses k (length sends / messageWords) (takes-then ∙ ap (λ (z : Answer). takingLast h r sends draws extras now out told z t v d x) a) n m b y in
+        (l .0, (l .1 .0, (l .1 .1 .0, ((rw a at u) ∙ l .1 .1 .1 .0, l .1 .1 .1 .1))))
 
-        module _ (e : length sends ≡ messageWords * (length sends / messageWords)) where
-          abbrev ran : Ran
-          ran = sendsFrom sends draws extras (length sends / messageWords) 0 0 0 (headIn h) r
+    pub all-done : answerIn (collect now (length out)) t v ≡ done
+        → (s : Head) → s ≡ headAfter (collect now (length out)) t v
+        → (a b o : List ℕ) → a ≡ headWords s → b ≡ recordsAfter (collect now (length out)) t v → o ≡ takeGives now out t v
+        → (k : ℕ) → k ≡ length (dueIn now t v)
+        → Ticked 0 a b o (d ∷ x ∷ k ∷ [])
+    unfolding takingLast ifDone
+    all-done e s j a b o p y u k m =
+        let l = leaves (takingLast h r sends draws extras now out told done t v d x) (takes-then ∙ ap (λ (z : Answer). takingLast h r sends draws extras now out told z t v d x) e) in (
+          l .0,
+          (
+            p ∙ (ap headWords j ∙ l .1 .0),
+            (y ∙ l .1 .1 .0, ((rw e at u) ∙ l .1 .1 .1 .0, ap (λ (n : ℕ). d ∷ x ∷ n ∷ []) m ∙ l .1 .1 .1 .1)),
+          ),
+        )
 
-          sends-first : whole ≡ afterSends h r sends draws extras now out told ran
-          unfolding batchTested
-          sends-first =
-              opens
-              ∙ rw (le-leb (length sends / messageWords) mostMessages c, eq-eqb (length sends) (messageWords * (length sends / messageWords)) e)
+-- ---- and no take
 
-          pub send-refused : (k p : ℕ) → ran ≡ stopped k p → (n : ℕ) → n ≡ numberAt k p → (b : List ℕ) → b ≡ r → Ticked n h b out told
-          unfolding afterSends
-          send-refused k p q n m b y =
-              let l = refuses k p (sends-first ∙ ap (afterSends h r sends draws extras now out told) q) n m in
-              (l .0, (l .1 .0, (y ∙ l .1 .1 .0, l .1 .1 .1)))
+module _ (h r sends draws extras told : List ℕ) where
+  abbrev queue : Rows
+  queue = queued h r sends draws extras told
 
-          module _ (t : Head) (v : List ℕ) (d x : ℕ) (q : ran ≡ all t v d x) where
-            takes-then : whole ≡ takingLast h r sends draws extras now out told (answerIn (collect now (length out)) t v) t v d x
-            unfolding afterSends
-            takes-then = sends-first ∙ ap (afterSends h r sends draws extras now out told) q
+  abbrev pub Queued : ℕ → List ℕ → List ℕ → List ℕ → Type 0
+  Queued n a b t = (n ≡ queue .number) × ((a ≡ queue .head) × ((b ≡ queue .records) × (t ≡ queue .told)))
 
-            pub take-refused : (k : ℕ) → answerIn (collect now (length out)) t v ≡ refused k → (n : ℕ) → n ≡ numberAt k (length sends / messageWords)
-                → (b o : List ℕ) → b ≡ r → o ≡ takeGives now out t v → Ticked n h b o told
-            unfolding takingLast ifDone
-            take-refused k a n m b o y u =
-                let l = refuses k (length sends / messageWords) (takes-then ∙ ap (λ (z : Answer). takingLast h r sends draws extras now out told z t v d x) a) n m in
-                (l .0, (l .1 .0, (y ∙ l .1 .1 .0, ((rw a at u) ∙ l .1 .1 .1 .0, l .1 .1 .1 .1))))
+  pub queue-refused : (k p : ℕ) → batchRan h r sends draws extras ≡ stopped k p → (n : ℕ) → n ≡ numberAt k p → (b : List ℕ) → b ≡ r → Queued n h b told
+  unfolding afterQueue
+  queue-refused k p q n m b y = (rw q m, (rw q, (rw q y, rw q)))
 
-            pub all-done : answerIn (collect now (length out)) t v ≡ done
-                → (s : Head) → s ≡ headAfter (collect now (length out)) t v
-                → (a b o : List ℕ) → a ≡ headWords s → b ≡ recordsAfter (collect now (length out)) t v → o ≡ takeGives now out t v
-                → (k : ℕ) → k ≡ length (dueIn now t v)
-                → Ticked 0 a b o (d ∷ x ∷ k ∷ [])
-            unfolding takingLast ifDone
-            all-done e s j a b o p y u k m =
-                let l = leaves (takingLast h r sends draws extras now out told done t v d x) (takes-then ∙ ap (λ (z : Answer). takingLast h r sends draws extras now out told z t v d x) e) in (
-                  l .0,
-                  (
-                    p ∙ (ap headWords j ∙ l .1 .0),
-                    (y ∙ l .1 .1 .0, ((rw e at u) ∙ l .1 .1 .1 .0, ap (λ (n : ℕ). d ∷ x ∷ n ∷ []) m ∙ l .1 .1 .1 .1)),
-                  ),
-                )
+  pub queue-done : (t : Head) (v : List ℕ) (d x : ℕ) → batchRan h r sends draws extras ≡ all t v d x → (a : List ℕ) → a ≡ headWords t → Queued 0 a v (d ∷ x ∷ [])
+  unfolding afterQueue
+  queue-done t v d x q a m = (rw q, (rw q m, (rw q, rw q)))

@@ -97,6 +97,28 @@ module _ (h r sends draws extras : List ℕ) (now : ℕ) (out told : List ℕ) w
   abbrev pub ticked : Rows
   ticked = batchTested (ifHead h (formAnswer (headIn h) r))
 
+-- THE SENDS ALONE, without a take: the tests in the same order, and what the sends leave
+module _ (h r sends draws extras : List ℕ) where
+  unfoldable pub sendsTested : Answer → Ran
+  sendsTested (refused k) = stopped k 0
+  sendsTested done =
+      cond (leb (length sends / messageWords) mostMessages)
+      (cond (eqb (length sends) (messageWords * (length sends / messageWords)))
+      (sendsFrom sends draws extras (length sends / messageWords) 0 0 0 (headIn h) r)
+      (stopped 24 (length sends / messageWords)))
+      (stopped 24 mostMessages)
+
+  abbrev pub batchRan : Ran
+  batchRan = sendsTested (ifHead h (formAnswer (headIn h) r))
+
+  -- its number, 0 if all is done, and each lent row of words after it; the draws and the extras used are told
+  unfoldable pub afterQueue : Ran → (told : List ℕ) → Rows
+  afterQueue (stopped k place) told = record { number = numberAt k place; head = h; records = r; out = []; told = told }
+  afterQueue (all t w d x) told = record { number = 0; head = headWords t; records = w; out = []; told = d ∷ x ∷ [] }
+
+  abbrev pub queued : (told : List ℕ) → Rows
+  queued told = afterQueue batchRan told
+
 -- INSIDE: what the code's run of the sends says
 abbrev pub ranOf : Run → List ℕ → Ran
 ranOf t w = cond (eqb (t .refusal) 0) (all (t .head) w (t .draws) (t .extras)) (stopped (t .refusal) (t .place))

@@ -19,8 +19,9 @@ ghost use Rattle.nights.specs.Net.{keep};
 ghost use Rattle.network_queue.specs.Packed.{packed, arraySize};
 ghost use Rattle.network_drop.specs.Numbered.{upTo};
 ghost use Rattle.network_form.specs.Forms.{formedIn};
+ghost use Rattle.network_layout.specs.Layout.{headIn};
 ghost use Rattle.network_send.specs.Sends.{plainLetter};
-ghost use Rattle.network_batch.specs.Ticks.{messageWords, mostMessages, letterAt, numberAt, sendsFrom, ticked, ranOf};
+ghost use Rattle.network_batch.specs.Ticks.{messageWords, mostMessages, letterAt, numberAt, sendsFrom, ticked, batchRan, queued, ranOf};
 
 // The words of a message: the tick it is sent at, the sender's sort and id, the receiver, kind and handle.
 pub const MESSAGE: usize = 6;
@@ -122,12 +123,62 @@ fn send_all(
     }
 }
 
-// The records without those that sends since a network's time have queued.
-fn take_back(records: &mut [u64; WORDS], after: Head, before: Head)
+// The records without those numbered above `last`, the number of a network before its sends.
+fn take_back(records: &mut [u64; WORDS], after: Head, last: u64)
     requires { ⌜ (length (now records) ≡ arraySize) × (formedIn after (now records) ≡ true) ⌝ }
-    ensures { λ _. ⌜ now (records .exit) ≡ packed (keep (upTo (before .seq)) (recs (now (records .entry)) 0 (after .pending))) ⌝ }
+    ensures { λ _. ⌜ now (records .exit) ≡ packed (keep (upTo last) (recs (now (records .entry)) 0 (after .pending))) ⌝ }
 {
-    network_drop::drop_above(records, after.pending, before.seq);
+    network_drop::drop_above(records, after.pending, last);
+}
+
+// A run that is refused before its first send.
+fn unsent(refusal: u64, place: usize, head: Head) -> Run
+    ensures { λ t. ⌜ (t .refusal ≡ refusal) × (t .place ≡ place) ⌝ }
+{
+    Run {
+        refusal: refusal,
+        place: place,
+        head: head,
+        draws: 0,
+        extras: 0,
+    }
+}
+
+// The tests of the network and of the list, and the sends. Where one is refused the records are as they came; and else they are so again
+// without those of the newest numbers.
+fn run_sends(
+    head: &[u64; HEAD_WORDS],
+    records: &mut [u64; WORDS],
+    sends: &[u64],
+    draws: &[u64],
+    extras: &[u64],
+) -> Run
+    ensures ran { λ t. ⌜ ranOf t (now (records .exit))
+        ≡ batchRan (now (head .entry)) (now (records .entry)) (now (sends .entry)) (now (draws .entry)) (now (extras .entry)) ⌝ }
+    ensures kept { λ t. ⌜ ((t .refusal ≡ 0 → ⊥) → (now (records .exit) ≡ now (records .entry)) × (t .refusal ≤ 33) × (t .place ≤ mostMessages)) ⌝ }
+    ensures sent { λ t. ⌜ (t .refusal ≡ 0 → (length (now (records .exit)) ≡ arraySize) × (formedIn (t .head) (now (records .exit)) ≡ true)
+        × (packed (keep (upTo (headIn (now (head .entry)) .seq)) (recs (now (records .exit)) 0 (t .head .pending))) ≡ now (records .entry))) ⌝ }
+{
+    let loaded = network_layout::load(head);
+    if !loaded.fits {
+        return unsent(ILL_FORMED, 0, loaded.head);
+    }
+    network_queue::whole(records);
+    if !network_form::formed(records, loaded.head) {
+        return unsent(ILL_FORMED, 0, loaded.head);
+    }
+    let count = sends.len() / MESSAGE;
+    if MOST < count {
+        return unsent(BROKEN_MESSAGE, MOST, loaded.head);
+    }
+    if count * MESSAGE != sends.len() {
+        return unsent(BROKEN_MESSAGE, count, loaded.head);
+    }
+    let run = send_all(records, loaded.head, sends, count, draws, extras);
+    if run.refusal != 0 {
+        take_back(records, run.head, loaded.head.seq);
+    }
+    run
 }
 
 // The sends of a tick and then a take at `now`: the draws and the extras used and the records taken are told.
@@ -152,32 +203,16 @@ pub fn tick(
     ensures told { λ _. ⌜ told .exit .now ≡ ticked (head .entry .now) (records .entry .now) (sends .entry .now)
         (draws .entry .now) (extras .entry .now) now (out .entry .now) (told .entry .now) .told ⌝ }
 {
-    let loaded = network_layout::load(head);
-    if !loaded.fits {
-        return at(ILL_FORMED, 0);
-    }
-    network_queue::whole(records);
-    if !network_form::formed(records, loaded.head) {
-        return at(ILL_FORMED, 0);
-    }
-    let count = sends.len() / MESSAGE;
-    if MOST < count {
-        return at(BROKEN_MESSAGE, MOST);
-    }
-    if count * MESSAGE != sends.len() {
-        return at(BROKEN_MESSAGE, count);
-    }
-    let run = send_all(records, loaded.head, sends, count, draws, extras);
+    let run = run_sends(head, records, sends, draws, extras);
     if run.refusal != 0 {
-        take_back(records, run.head, loaded.head);
         return at(run.refusal, run.place);
     }
     let taken = network_take::take_on(records, run.head, now, out);
     let answer = taken.answer;
     match answer {
         Counted::Refused(refusal) => {
-            take_back(records, run.head, loaded.head);
-            at(number_of(refusal), count)
+            take_back(records, run.head, head[network_layout::SEQ]);
+            at(number_of(refusal), sends.len() / MESSAGE)
         }
         Counted::Records(k) => {
             network_layout::store(taken.head, head);
@@ -185,4 +220,31 @@ pub fn tick(
             0
         }
     }
+}
+
+// The sends of a list without a take: the draws and the extras used are told.
+pub fn queue(
+    head: &mut [u64; HEAD_WORDS],
+    records: &mut [u64; WORDS],
+    sends: &[u64],
+    draws: &[u64],
+    extras: &[u64],
+    told: &mut [u64; 2],
+) -> u64
+    ensures answer { λ r. ⌜ r ≡ queued (head .entry .now) (records .entry .now) (sends .entry .now) (draws .entry .now)
+        (extras .entry .now) (told .entry .now) .number ⌝ }
+    ensures head { λ _. ⌜ head .exit .now ≡ queued (head .entry .now) (records .entry .now) (sends .entry .now)
+        (draws .entry .now) (extras .entry .now) (told .entry .now) .head ⌝ }
+    ensures records { λ _. ⌜ records .exit .now ≡ queued (head .entry .now) (records .entry .now) (sends .entry .now)
+        (draws .entry .now) (extras .entry .now) (told .entry .now) .records ⌝ }
+    ensures told { λ _. ⌜ told .exit .now ≡ queued (head .entry .now) (records .entry .now) (sends .entry .now)
+        (draws .entry .now) (extras .entry .now) (told .entry .now) .told ⌝ }
+{
+    let run = run_sends(head, records, sends, draws, extras);
+    if run.refusal != 0 {
+        return at(run.refusal, run.place);
+    }
+    network_layout::store(run.head, head);
+    *told = [run.draws as u64, run.extras as u64];
+    0
 }

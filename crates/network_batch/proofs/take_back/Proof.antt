@@ -14,7 +14,7 @@ returns : tie.Need-returns
 returns c =
     let s = c .before .before in
     let a = s .args in
-    dropped (a .records .now) (a .after .pending) (sym (words-are (a .after) (a .records .now) (s .pre .1) (s .pre .0))) (small (a .after) (a .records .now) (s .pre .1)) (a .before .seq) _ _ (c .drop-above .ensures .0) (c .drop-above .ensures .1)
+    dropped (a .records .now) (a .after .pending) (sym (words-are (a .after) (a .records .now) (s .pre .1) (s .pre .0))) (small (a .after) (a .records .now) (s .pre .1)) (a .last) _ _ (c .drop-above .ensures .0) (c .drop-above .ensures .1)
 
 pub take-back-spec : {M : Type 1} → statement M
 take-back-spec =
