@@ -4,14 +4,18 @@
 use borrow.Author.Tests.{lt-ltb, le-ltb}
 use native.Mathlib.Omega.{arith}
 use native.Mathlib.Decide.{decLt}
+use mathlib.Core.Bool.{true}
 use mathlib.Core.List.{List, [], _∷_, _++_, append-assoc, append-nil}
 use mathlib.Core.Path.{_≡_, refl, sym, ap, _∙_, subst}
 use Prim.Native.Nat.{ℕ, zero, suc, _+_, _-_, _≤_, _<_, max}
 use lib.ListN.{length, getD, length-append, List·getD-append}
 use lib.Seq.{getD-append-add}
 use Rattle.properties_snapshots.specs.Below.{numbered, maxBelow}
-use Rattle.properties_snapshots.specs.Cluster.{LogEntry, Cluster, noEntry, plant, entry, last}
+use Rattle.properties_snapshots.specs.Cluster.{LogEntry, Cluster, noEntry, plant, entry, last, clusterIn}
+use Rattle.properties_snapshots.specs.Fits.{trackerFits}
 use Rattle.properties_snapshots.proofs.Below.{length-numbered, getD-numbered, max-start, max-reaches}
+use Rattle.properties_snapshots.proofs.Held.{canonical-long, last-held}
+use Rattle.properties_snapshots.proofs.Known.{tracker-known}
 use Rattle.properties_snapshots.proofs.Same.{entries-same}
 use Rattle.properties_verdicts.specs.Verdicts.{andThen, firstOf, atEntry, overCommitted}
 use Rattle.properties_verdicts.proofs.First.{broken-no-pass, refused-no-pass}
@@ -155,14 +159,16 @@ module _ (c : Cluster) where
     unfolding overIndexes firstOf
     over-indexes zero i m e l g o z = record { answer = refl; canonical = λ q. ap upTo (omega arith) }
     over-indexes (suc count) i m e l g o z =
-        going-on (comparedOrAppended r i (entry c r i) (upTo m)) (compared i) (firstOf compared (suc i) count) (max m (suc i)) e (overIndexes c r (suc i) count)
+        going-on (comparedOrAppended r i (entry c r i) (upTo m)) (compared i) (firstOf compared (suc i) count) (max m (suc i)) e
+        (overIndexes c r (suc i) count)
         (one-entry i m l g (omega arith))
         (over-indexes count (suc i) (max m (suc i)) e (omega arith) (omega arith) (omega arith) (omega arith))
 
-  -- ---- all plants
+  -- ---- all plants, of which none was verified past the canonical entries
   module _ (verified : (r : ℕ) → r < c .size → last c r ≤ known) where
     over-all : (count r : ℕ) → r + count ≡ c .size
-        → Walked (overAll c r count (upTo (reached r))) (firstOf (λ r. overCommitted c r (λ i. atEntry all.the-variants.PrefixAgreement r i 1 (agrees c r i))) r count)
+        → Walked (overAll c r count (upTo (reached r)))
+        (firstOf (λ r. overCommitted c r (λ i. atEntry all.the-variants.PrefixAgreement r i 1 (agrees c r i))) r count)
         (reached (c .size))
     unfolding overAll firstOf maxBelow
     over-all zero r e = let z : r ≡ c .size = omega arith in record { answer = refl; canonical = λ q. ap (λ (k : ℕ). upTo (reached k)) z }
@@ -184,3 +190,8 @@ module _ (c : Cluster) where
     pub appended-are : appending c .answer ≡ Pass → appending c .canonical ≡ c .tracker .canonical ++ appended c
     unfolding appended lengthAfter
     appended-are e = walked .canonical e
+
+-- so it is of a tracker that fits
+pub fitting-verified : (n : ℕ) (p l t : List ℕ) → trackerFits n t ≡ true
+    → let c = clusterIn n p l t in (r : ℕ) → r < n → last c r ≤ length (c .tracker .canonical)
+fitting-verified n p l t h r g = omega (arith, tracker-known n t h .lasts r g, last-held n p l t r g, canonical-long n p l t)

@@ -52,11 +52,12 @@ reboot-distinct n id t d = either (rebootAnswer n id t) (set t (lastAt id) 0) t 
         let k = tracker-known n t (unless-known BadTracker (trackerFits n t) (b .1)) in
         elim (ℕ-discrete r id) [
           | yes z ↦
-              absurd
-              (omega (arith, m, ap (λ (x : ℕ). getD (set t (lastAt id) 0) (lastAt x) 0) z, getD-set-same t (lastAt id) 0 0 (omega (arith, k .words))))
+              let none = getD-set-same t (lastAt id) 0 0 (omega (arith, k .words)) in
+              absurd (omega (arith, m, ap (λ (x : ℕ). getD (set t (lastAt id) 0) (lastAt x) 0) z))
           | no z ↦
-              d r i j h l (omega (arith, m, getD-set-other t (lastAt id) (lastAt r) 0 0 (λ y. z (omega arith))))
-              (sym (getD-set-other t (lastAt id) (seenAt n r i) 0 0 (omega arith)) ∙ (q ∙ getD-set-other t (lastAt id) (seenAt n r j) 0 0 (omega arith)))
+              let seen : (x : ℕ) → getD (set t (lastAt id) 0) (seenAt n r x) 0 ≡ getD t (seenAt n r x) 0 =
+              λ x. getD-set-other t (lastAt id) (seenAt n r x) 0 0 (omega arith) in
+              d r i j h l (omega (arith, m, getD-set-other t (lastAt id) (lastAt r) 0 0 (λ y. z (omega arith)))) (sym (seen i) ∙ (q ∙ seen j))
         ]
 
 -- a tick call that passes: an id newly committed differs from all before it by property 4, and those remembered differ already
@@ -103,5 +104,6 @@ keeps-distinct n [] t d = d
 keeps-distinct n (tick p l ∷ more) t d = keeps-distinct n more (tickWords n p l t) (tick-distinct n p l t d)
 keeps-distinct n (reboot id ∷ more) t d = keeps-distinct n more (rebootWords n id t) (reboot-distinct n id t d)
 
-pub no-two-equal : (n : ℕ) (t : List ℕ) → freshAnswer n (length t) ≡ Pass → (calls : List TrackerCall) → NoTwoEqual n (trackerAfter n (freshWords n t) calls)
+pub no-two-equal : (n : ℕ) (t : List ℕ) → freshAnswer n (length t) ≡ Pass → (calls : List TrackerCall)
+    → NoTwoEqual n (trackerAfter n (freshWords n t) calls)
 no-two-equal n t e calls = keeps-distinct n calls (freshWords n t) (fresh-distinct n t e)

@@ -159,7 +159,8 @@ module _ (c : Cluster) where
       let known : (d : Place) → AskedAt c d → Known (number d) = λ d. asked-number (d .property) (d .plant) (d .index) (d .test) in
       same-judged c (Over 0) (AskedAt c) (tickJudged c) (λ d. (λ m. m .0, λ m. (m, known d m .0)))
       (next-judged CommitNumber 0 _ _ (omega arith) (λ d m. m .1) commits-judged
-      (next-judged PrefixAgreement 1 _ _ (omega arith) (λ d m. omega (arith, known d (m .0), m .1)) (entries-judged of-entries.the-variants.PrefixAgreement)
+      (next-judged PrefixAgreement 1 _ _ (omega arith) (λ d m. omega (arith, known d (m .0), m .1))
+      (entries-judged of-entries.the-variants.PrefixAgreement)
       (next-judged NoDuplicates 3 _ _ (omega arith) (λ d m. m .1) (entries-judged of-entries.the-variants.NoDuplicates)
       (same-judged c (Of Durability) (Over 4) _
       (λ d. (
@@ -180,7 +181,8 @@ module _ (c : Cluster) where
     of-pass : (x ≡ Pass) ↔ ((a : Place) → a .property ≡ p → AskedAt c a → HoldsAt c a)
     of-pass = Iff·trans (pass-is c (Of p) x judged) (λ h a e m. h a (e, m), λ h a m. h a (m .0) (m .1))
 
-  pub commit-broken-exactly : (a : Place) → (commitNumbers c ≡ Broken (a .property) (a .plant) (a .index) (a .test)) ↔ FirstOf CommitNumber c a
+  pub commit-broken-exactly : (a : Place)
+      → (commitNumbers c ≡ Broken (a .property) (a .plant) (a .index) (a .test)) ↔ FirstOf CommitNumber c a
   commit-broken-exactly = of-broken CommitNumber (commitNumbers c) commits-judged
 
   pub commit-pass-exactly : (commitNumbers c ≡ Pass) ↔ ((a : Place) → a .property ≡ CommitNumber → AskedAt c a → HoldsAt c a)
@@ -190,7 +192,8 @@ module _ (c : Cluster) where
       → (overEntries p c ≡ Broken (a .property) (a .plant) (a .index) (a .test)) ↔ FirstOf (named p) c a
   entries-broken-exactly p = of-broken (named p) (overEntries p c) (entries-judged p)
 
-  pub entries-pass-exactly : (p : EntryProperty) → (overEntries p c ≡ Pass) ↔ ((a : Place) → a .property ≡ named p → AskedAt c a → HoldsAt c a)
+  pub entries-pass-exactly : (p : EntryProperty)
+      → (overEntries p c ≡ Pass) ↔ ((a : Place) → a .property ≡ named p → AskedAt c a → HoldsAt c a)
   entries-pass-exactly p = of-pass (named p) (overEntries p c) (entries-judged p)
 
   pub broken-exactly : (a : Place) → (tickJudged c ≡ Broken (a .property) (a .plant) (a .index) (a .test)) ↔ First c a

@@ -55,7 +55,9 @@ module _ (c : Cluster) (r : ℕ) where
 
     durable-exactly : (durable c r i ≡ true) ↔ (neededCopies (c .size) (participants c) ≤ copiesOf c r i)
     unfolding durable
-    durable-exactly = (leb-true (neededCopies (c .size) (participants c)) (copiesOf c r i), le-leb (neededCopies (c .size) (participants c)) (copiesOf c r i))
+    durable-exactly =
+        let needed = neededCopies (c .size) (participants c) in
+        (leb-true needed (copiesOf c r i), le-leb needed (copiesOf c r i))
 
     -- a property of entries
     pub asked-exactly : (p : EntryProperty) → (asked p c r i ≡ true) ↔ Holds c (named p) r i 1

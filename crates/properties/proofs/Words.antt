@@ -70,12 +70,22 @@ module _ (n k : ℕ) where
   told-by-place (aCanonical i j h g e) =
       let y : i ≡ (k - canonicalAt n 0) / entryWords = omega arith in
       let z : j ≡ (k - canonicalAt n 0) % entryWords = omega arith in
-      rw (le-ltb k lengthAt (omega arith), le-ltb k lastsAt (omega arith), le-ltb k (canonicalAt n 0) (omega arith), lt-ltb k (seenAt n 0 0) (omega arith))
+      rw (
+        le-ltb k lengthAt (omega arith),
+        le-ltb k lastsAt (omega arith),
+        le-ltb k (canonicalAt n 0) (omega arith),
+        lt-ltb k (seenAt n 0 0) (omega arith),
+      )
       (λ m. (3, y m, z m))
   told-by-place (aSeen r i h g e) =
       let y : r ≡ (k - seenAt n 0 0) / logEntries = omega arith in
       let z : i ≡ (k - seenAt n 0 0) % logEntries = omega arith in
-      rw (le-ltb k lengthAt (omega arith), le-ltb k lastsAt (omega arith), le-ltb k (canonicalAt n 0) (omega arith), le-ltb k (seenAt n 0 0) (omega arith))
+      rw (
+        le-ltb k lengthAt (omega arith),
+        le-ltb k lastsAt (omega arith),
+        le-ltb k (canonicalAt n 0) (omega arith),
+        le-ltb k (seenAt n 0 0) (omega arith),
+      )
       (λ m. (4, y m, z m))
 
   pub one-part : (a b : Part n k) → told a ≡ told b
