@@ -6,7 +6,7 @@ use Prim.Native.Nat.{ℕ, _+_, _≤_}
 use native.Mathlib.Omega.{arith}
 use lib.ListN.{length}
 use Rattle.nights.specs.Record.{Record, recs}
-use Rattle.nights.specs.Net.{capacity, Fate, dues, lostBy, replayedBy, delayedBy, Letter, copies, insertAll, sendOne}
+use Rattle.nights.specs.Net.{every, goodRecord, rising, goodOptions, wellFormed, capacity, Fate, dues, lostBy, replayedBy, delayedBy, Letter, copies, insertAll, sendOne}
 use Rattle.nights.proofs.Order.{length-insertAll}
 use Rattle.nights.proofs.Good.{length-copies}
 use Rattle.network_queue.specs.Packed.{arraySize, packed}
@@ -16,7 +16,9 @@ use Rattle.network_queue.proofs.Packing.{packed-insertAll}
 use Rattle.network_options.proofs.OptionForms.{Held, options-back}
 use Rattle.network_form.specs.declared.Head.{Head}
 use Rattle.network_form.specs.Forms.{plainIn, headOf, formedIn}
-use Rattle.network_form.proofs.Maps.{words-are}
+use Rattle.basis.proofs.Laws.{both}
+use Rattle.nights.proofs.Kept.{rises}
+use Rattle.network_form.proofs.Maps.{plain-formed, words-are}
 
 module _ (h : Head) (w : List ℕ) (m : Letter) (g : Fate) where
   abbrev held : List Record
@@ -53,3 +55,14 @@ module _ (h : Head) (w : List ℕ) (m : Letter) (g : Fate) where
       ∙ (ap (λ (x : List ℕ). insertedAll x (h .pending) made) (sym (words-are h w f long))
       ∙ (ap (λ (k : ℕ). insertedAll (packed held) k made) (sym many)
       ∙ packed-insertAll made held (omega (arith, room, many, length-copies m (h .seq) (dues g)))))
+
+-- ---- the records of a well-formed network: each numbered up to its seq, and in order
+
+pub records-good : (h : Head) (w : List ℕ) → formedIn h w ≡ true → every (goodRecord (h .seq)) (recs w 0 (h .pending)) ≡ true
+unfolding wellFormed
+records-good h w f =
+    let a = both (goodOptions (plainIn h w .options)) _ (plain-formed h w f) in
+    both (every (goodRecord (h .seq)) (recs w 0 (h .pending))) _ (a .1) .0
+
+pub records-rise : (h : Head) (w : List ℕ) → formedIn h w ≡ true → rising (recs w 0 (h .pending)) ≡ true
+records-rise h w f = rises (plainIn h w) (plain-formed h w f)

@@ -8,7 +8,8 @@ ghost use mathlib.Core.Path.{_≡_};
 ghost use mathlib.Core.Bool.{true};
 ghost use Prim.Native.Nat.{_+_, _≤_, _<_, _^_};
 ghost use lib.ListN.{length};
-ghost use Rattle.nights.specs.Net.{capacity, copyAt, copies, dues, send};
+ghost use Rattle.nights.specs.Record.{recs};
+ghost use Rattle.nights.specs.Net.{capacity, copyAt, copies, dues, send, every, goodRecord, rising};
 ghost use Rattle.network_queue.specs.Plain.{plainRecord};
 ghost use Rattle.network_queue.specs.Packed.{arraySize};
 ghost use Rattle.network_queue.specs.Places.{insertedAll};
@@ -60,9 +61,11 @@ fn copy_of(letter: Letter, due: u64, seq: u64) -> network_queue::Record
     }
 }
 
-// The copies of a fate put among the first n records, numbered from seq + 1: the replayed copy before the original.
+// The copies of a fate put among the first n records, which are in order and numbered up to seq; the copies are numbered from seq + 1,
+// the replayed copy before the original.
 fn queue_copies(w: &mut [u64; WORDS], n: usize, seq: u64, letter: Letter, decision: Decision)
     requires { ⌜ (length (now w) ≡ arraySize) × (n + length (dues (decisionOf decision .fate)) ≤ capacity) × (seq + 2 < 2 ^ 64) ⌝ }
+    requires { ⌜ (every (goodRecord seq) (recs (now w) 0 n) ≡ true) × (rising (recs (now w) 0 n) ≡ true) ⌝ }
     ensures { λ _. ⌜ now (w .exit) ≡ insertedAll (now (w .entry)) n (copies (plainLetter letter) seq (dues (decisionOf decision .fate))) ⌝ }
 {
     match decision {
@@ -74,7 +77,7 @@ fn queue_copies(w: &mut [u64; WORDS], n: usize, seq: u64, letter: Letter, decisi
             draws: _,
             extras: _,
         } => {
-            network_queue::insert_in(w, n, copy_of(letter, due, seq + 1));
+            network_place::insert(w, n, copy_of(letter, due, seq + 1));
         }
         Decision::Twice {
             copy,
@@ -84,8 +87,8 @@ fn queue_copies(w: &mut [u64; WORDS], n: usize, seq: u64, letter: Letter, decisi
             draws: _,
             extras: _,
         } => {
-            network_queue::insert_in(w, n, copy_of(letter, copy, seq + 1));
-            network_queue::insert_in(w, n + 1, copy_of(letter, original, seq + 2));
+            network_place::insert(w, n, copy_of(letter, copy, seq + 1));
+            network_place::insert(w, n + 1, copy_of(letter, original, seq + 2));
         }
     }
 }

@@ -18,7 +18,7 @@ use Rattle.network_form.proofs.Calling.{head-stays, records-stay, head-follows,
 use Rattle.network_send.specs.declared.SendAnswer.{SendAnswer}
 use Rattle.network_send.specs.Sends.{plainLetter, Sending, sentOf, sending, fateAnswer}
 use Rattle.network_send.proofs.Testing.{unsent, bad-kind, bad-sort, limit-met, fate-refuses, queue-full, send-well, answer-of, refusing-fate, Few, few}
-use Rattle.network_send.proofs.Queueing.{sent-head, sent-words}
+use Rattle.network_send.proofs.Queueing.{sent-head, sent-words, records-good, records-rise}
 use borrow.Author.Needs.{needs}
 use Rattle.network_send.proofs.send_on.Statement.{statement}
 use Rattle.network_send.proofs.send_on.Tie as tie
@@ -140,7 +140,10 @@ queue-copies-requires : tie.Need-queue-copies-requires
 queue-copies-requires c κs =
     let d = c .before .before .before .before .before .before in
     let n = counted d in
-    (start d .pre .0, room (c .before), omega (arith, n .few, n .replayed, n .even, n .numbered))
+    let a = start d .args in (
+      (start d .pre .0, room (c .before), omega (arith, n .few, n .replayed, n .even, n .numbered)),
+      (records-good (a .head) (a .w .now) (start d .pre .1), records-rise (a .head) (a .w .now) (start d .pre .1)),
+    )
 
 add-next : tie.Need-add-next
 add-next c = search needs
