@@ -3,3 +3,4 @@ pub mod Using
 pub mod Sending
 pub mod Undoing
 pub mod Ticking
+pub mod Parted

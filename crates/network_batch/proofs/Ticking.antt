@@ -4,7 +4,7 @@ use mathlib.Core.Path.{_≡_, refl, sym, ap, _∙_}
 use mathlib.Core.Bool.{Bool, true, false, cond}
 use mathlib.Core.List.{List, [], _∷_}
 use native.Mathlib.Omega.{arith}
-use borrow.Author.Tests.{le-leb, lt-leb, leb-true, eq-eqb, ne-eqb}
+use borrow.Author.Tests.{le-leb, lt-leb, leb-true, leb-false, eq-eqb, ne-eqb, eqb-true, eqb-false}
 use lib.Dec.{leb, eqb}
 use lib.ListN.{length}
 use Rattle.nights.specs.Net.{collect}
@@ -56,22 +56,29 @@ module _ (h r sends draws extras : List ℕ) where
         unfolding sendsTested
         sends-run e = opens ∙ rw (le-leb count mostMessages c, eq-eqb (length sends) (messageWords * count) e)
 
-  -- a list that was sent is not too long
-  module _ (t : Head) (v : List ℕ) (d x : ℕ) where
-    not-all : {A : Type 0} (k p : ℕ) → stopped k p ≡ all t v d x → A
-    not-all k p e = let z : _≡_ {A = ℕ} 0 1 = cc in absurd (omega arith)
+  -- where all was sent, every test had passed
+  pub record Sent (t : Head) (v : List ℕ) (d x : ℕ) : Type 0 where
+    pub formed : formedIn (headIn h) r ≡ true
+    pub few : count ≤ mostMessages
+    pub ran : sendsFrom sends draws extras count 0 0 0 (headIn h) r ≡ all t v d x
 
-    pub few : whole ≡ all t v d x → count ≤ mostMessages
-    unfolding sendsTested
-    few e = go (ifHead h (formAnswer (headIn h) r)) e
+  module _ (t : Head) (v : List ℕ) (d x : ℕ) (e : whole ≡ all t v d x) where
+    no-stop : {A : Type 0} (k p : ℕ) → whole ≡ stopped k p → A
+    no-stop k p q = let y : stopped k p ≡ all t v d x = sym q ∙ e in let z : _≡_ {A = ℕ} 0 1 = cc in absurd (omega arith)
+
+    pub all-passed : Sent t v d x
+    all-passed = go (headFits h) refl (formedIn (headIn h) r) refl (leb count mostMessages) refl (eqb (length sends) (messageWords * count)) refl
       where
-        within : (b : Bool) (more : Ran) → leb count mostMessages ≡ b → cond b more (stopped 24 mostMessages) ≡ all t v d x → count ≤ mostMessages
-        within true more p q = leb-true count mostMessages p
-        within false more p q = not-all 24 mostMessages q
-
-        go : (a : Answer) → sendsTested h r sends draws extras a ≡ all t v d x → count ≤ mostMessages
-        go (refused k) q = not-all k 0 q
-        go done q = within (leb count mostMessages) _ refl q
+        go : (f : Bool) → headFits h ≡ f → (w : Bool) → formedIn (headIn h) r ≡ w → (c : Bool) → leb count mostMessages ≡ c
+            → (o : Bool) → eqb (length sends) (messageWords * count) ≡ o → Sent t v d x
+        go false p w q c y o u = no-stop 23 0 (unread p)
+        go true p false q c y o u = no-stop 23 0 (ill-formed p q)
+        go true p true q false y o u = no-stop 24 mostMessages (too-many p q (leb-false count mostMessages y))
+        go true p true q true y false u =
+            no-stop 24 count (broken p q (leb-true count mostMessages y) (eqb-false (length sends) (messageWords * count) u))
+        go true p true q true y true u =
+            let c = leb-true count mostMessages y in
+            record { formed = q; few = c; ran = sym (sends-run p q c (eqb-true (length sends) (messageWords * count) u)) ∙ e }
 
 -- a run that is refused before its first send
 pub unsent-run : {A : Type 0} (t : Run) (w : List ℕ) (ran : Ran) (k p : ℕ) → (t .refusal ≡ k) × (t .place ≡ p) → ran ≡ stopped k p
@@ -111,7 +118,7 @@ module _ (h r sends draws extras : List ℕ) (now : ℕ) (out told : List ℕ) w
       let l = leaves (refusedAt h r sends draws extras now out told k p) e in (q ∙ l .0, (l .1 .0, (y ∙ l .1 .1 .0, l .1 .1 .1)))
 
   -- the tests and the sends come first
-  sends-first : tick ≡ afterSends h r sends draws extras now out told ran
+  pub sends-first : tick ≡ afterSends h r sends draws extras now out told ran
   unfolding batchTested sendsTested afterSends
   sends-first = go (ifHead h (formAnswer (headIn h) r))
     where

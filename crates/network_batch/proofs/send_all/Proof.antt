@@ -6,12 +6,11 @@ use borrow.Author.Needs.{needs}
 use mathlib.Core.List.{List}
 use lib.ListN.{length, take, drop, getD}
 use Rattle.nights.specs.Net.{Change, Letter, send}
-use Rattle.nights.specs.Draws.{Decided, decided}
-use Rattle.network_options.specs.Options.{plainOptions}
+use Rattle.nights.specs.Draws.{Decided}
 use Rattle.network_form.specs.declared.Head.{Head}
 use Rattle.network_form.specs.Calls.{answerIn, headAfter, recordsAfter}
 use Rattle.network_form.proofs.Calling.{records-stay}
-use Rattle.network_send.specs.Sends.{plainLetter, sentOf, sending, sendTells}
+use Rattle.network_send.specs.Sends.{sentOf, sendTells}
 use Rattle.nights.specs.Tests.{done}
 use Rattle.network_words.proofs.Told.{sent-refused, sent-done, sent-told}
 use Rattle.network_batch.specs.Ticks.{stopped, sendsFrom, letterAt, callAt, drawnBy}

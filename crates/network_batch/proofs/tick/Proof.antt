@@ -23,7 +23,7 @@ use Rattle.network_words.proofs.Told.{taken-refused, taken-done, taken-told}
 use Rattle.network_batch.specs.Ticks.{messageWords, mostMessages, numberAt, all, batchRan}
 use Rattle.network_batch.proofs.Using.{number-under}
 use Rattle.network_batch.proofs.Sending.{ran-stopped, ran-all}
-use Rattle.network_batch.proofs.Ticking.{few, send-refused, take-refused, all-done}
+use Rattle.network_batch.proofs.Ticking.{all-passed, send-refused, take-refused, all-done}
 use Rattle.network_batch.proofs.tick.Statement.{statement}
 use Rattle.network_batch.proofs.tick.Tie as tie
 
@@ -42,7 +42,7 @@ all-sent c = sym (sent c .run-sends .ensures .0) ∙ ran-all _ _ (c .if1 .left)
 within : (c : tie.Else1) → length (start (sent c) .args .sends .now) / messageWords ≤ mostMessages
 within c =
     let a = start (sent c) .args in
-    few (a .head .now) (a .records .now) (a .sends .now) (a .draws .now) (a .extras .now) _ _ _ _ (all-sent c)
+    all-passed (a .head .now) (a .records .now) (a .sends .now) (a .draws .now) (a .extras .now) _ _ _ _ (all-sent c) .few
 
 -- ---- what was due was taken
 
