@@ -76,7 +76,7 @@ module _ (o : Options) (rest : List ℕ) (ts : List Turn) where
     pub whole : morning .network ≡ structOf (plainOf (morning .network))
     pub formed : isFormed (morning .network) ≡ true
     -- the answers and the words are those of the plain form's run, of which the claim holds: what a rewind gives back, how far it
-    -- can go, that a mark stays, and what the journal holds
+    -- can go, that a mark stays, and how many calls the journal holds
     pub answers : entriesOf ts ≡ logOf fateOf o rest (callsOf ts)
     pub same : stateOf (morning .network) (morning .words) ≡ ran fateOf o rest (callsOf ts)
     pub claim : Claim fateOf o rest (callsOf ts)

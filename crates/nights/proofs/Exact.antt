@@ -10,7 +10,8 @@ use Rattle.nights.specs.Record.{Record}
 use Rattle.nights.specs.Net.{Options, Plain, keep, insertBy, insertAll, dues, Draws, Letter, copies, Change, send, collect, choose, goodOptions, rising}
 use Rattle.nights.specs.Journal.{Call}
 use Rattle.nights.specs.Rule.{optionsBy, makes, Made, followed, made, waits, from, seqOf, Exactly}
-use Rattle.nights.specs.Claim.{ran, stack, stands, replay}
+use Rattle.nights.specs.Claim.{ran, stack, stands}
+use Rattle.nights.proofs.Folding.{replay}
 use Rattle.nights.proofs.Order.{precedes}
 use Rattle.nights.proofs.Good.{good-replay, fit-replay, rises-of}
 use Rattle.nights.proofs.Fold.{copyOf, sortedCopies}

@@ -8,7 +8,7 @@ use lib.ListN.{length, length-append, length-map}
 use Rattle.nights.specs.Record.{Record}
 use Rattle.nights.specs.Net.{Options, Plain, fresh, keep, insertBy, insertAll, Fate, dues, lostBy, replayedBy, delayedBy, Draws, Letter, copies, Change, send, collect, choose, isLater, effect, goodOptions}
 use Rattle.nights.specs.Rule.{optionsBy, optionsRule, fateBy, fates, total, makes, Made, followed, made, missedBy, untaken, waits, deliveredRule, sentRule, lostRule, replayedRule, delayedRule, Counted}
-use Rattle.nights.specs.Claim.{replay}
+use Rattle.nights.proofs.Folding.{replay}
 use Rattle.nights.proofs.Order.{All, Ordered, Newer, all-insert, length-split, keep-keep, keep-all, ordered-insert, insertAll-append, length-insertAll, unseen, seen}
 use Rattle.nights.proofs.Good.{Numbered, Good, copyAt, raise, newer, length-copies, good-effect, good-fresh, good-replay, Sound, Fit, fit-replay}
 

