@@ -116,6 +116,12 @@ impl Rust {
     }
 }
 
+/// So many entries newly committed by 5 plants, the words lent before.
+pub fn new_entries(count: usize) -> Row {
+    let [_, called] = properties(5, 0, count, "growing");
+    called
+}
+
 /// A tick call after one that saw the plants earlier: with the words that it is lent, and the call alone.
 fn properties(plants: usize, before: usize, after: usize, what: &str) -> [Row; 2] {
     let (before, after) = (cluster(plants, before), cluster(plants, after));

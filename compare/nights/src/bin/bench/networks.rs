@@ -105,7 +105,7 @@ fn put_back(work: &mut Words, base: &Words) {
     work.clone_from(base);
 }
 
-fn send(pending: usize) -> Row {
+pub fn send(pending: usize) -> Row {
     let (rust, ours) = networks(pending);
     let mut rng = ChaCha8Rng::from_seed([0; 32]);
     let mut work = ours.clone();
@@ -198,7 +198,7 @@ fn messages() -> Vec<(u64, Message<Op>)> {
         .collect()
 }
 
-fn tick(pending: usize) -> Row {
+pub fn tick(pending: usize) -> Row {
     let (rust, ours) = networks(pending);
     let mut rng = ChaCha8Rng::from_seed([0; 32]);
     let sends: Vec<u64> = ten()
@@ -371,6 +371,43 @@ fn journaled(pending: usize) -> Row {
             let (time, sent) =
                 timed(|| work.send_journaled(letter(MIDDLE, 999), &[], &[], &mut journal));
             assert!(sent.is_ok() && journal[0] == 1);
+            time
+        },
+    )
+}
+
+/// So many sends undone, with 32 in flight before them; the Rust puts its copy back.
+pub fn rewind_sends(k: usize) -> Row {
+    let (rust, ours) = networks(32);
+    let mut rng = ChaCha8Rng::from_seed([0; 32]);
+    let mut journal = vec![0; 2_048];
+    journal[1] = 2;
+    let mut after = ours.clone();
+    let sent: Vec<(u64, u64)> = (0..k as u64)
+        .map(|place| (1 + place * 3 % SPREAD, 100 + place))
+        .collect();
+    for &(due, handle) in &sent {
+        after
+            .send_journaled(letter(due, handle), &[], &[], &mut journal)
+            .expect("there is room");
+    }
+    let header = [journal[0], journal[1]];
+    let mut work = after.clone();
+    both(
+        format!("rewind of {k} sends"),
+        TIMES,
+        || {
+            let (mut network, back) = (rust.copy(), rust.copy());
+            for &(due, handle) in &sent {
+                network.send(due, Origin::Replica(1), 2, message(handle), &mut rng);
+            }
+            timed(|| network = back).0
+        },
+        || {
+            put_back(&mut work, &after);
+            journal[..2].copy_from_slice(&header);
+            let (time, back) = timed(|| work.rewind(k as u64, &mut journal));
+            assert!(back.is_ok() && work.records() == ours.records() && work.head() == ours.head());
             time
         },
     )

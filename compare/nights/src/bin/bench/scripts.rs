@@ -36,6 +36,16 @@ pub fn rows() -> Vec<Row> {
     long.chain(short).collect()
 }
 
+/// A script in file order of about so many bytes, to lent words.
+pub fn of_length(bytes: usize) -> Row {
+    let mut text = script(BYTES, |line| line);
+    let end = text[..bytes.min(text.len())]
+        .rfind('\n')
+        .map_or(0, |last| last + 1);
+    text.truncate(end);
+    words("growing", &text, TIMES)
+}
+
 /// So many lines at most, and no more than fit.
 fn script(lines: usize, tick: impl Fn(usize) -> usize) -> String {
     let names = ["crash", "restart", "reboot", "partition", "heal"];

@@ -8,7 +8,7 @@ use std::time::{Duration, Instant};
 #[derive(Clone, Copy)]
 pub struct Spread {
     low: f64,
-    median: f64,
+    pub median: f64,
     high: f64,
 }
 
