@@ -1,0 +1,2 @@
+-- What undoing can break.
+pub mod Laws
