@@ -7,15 +7,15 @@ use mathlib.Core.List.{List, [], _∷_}
 use mathlib.Core.Bool.{Bool, true, false, cond, _&&_}
 use native.Mathlib.Omega.{arith}
 use borrow.Author.Tests.{le-leb, eq-eqb}
-use lib.Dec.{leb, eqb}
+use lib.Dec.{leb}
 use lib.ListN.{length}
 use Rattle.basis.proofs.Laws.{both}
 use Rattle.nights.specs.Record.{Record}
-use Rattle.nights.specs.Net.{capacity, sentLimit, lastKind, lastSort, Plain, keep, insertAll, every, goodOptions, goodRecord, rising, goodCounts, wellFormed}
+use Rattle.nights.specs.Net.{capacity, sentLimit, Plain, keep, insertAll, every, goodRecord, rising, goodCounts, wellFormed}
 use Rattle.nights.specs.Journal.{unsend, untake, unchoose}
 use Rattle.nights.proofs.Order.{length-insertAll, ordered-keep, apart-keep}
-use Rattle.nights.proofs.Good.{Good, Fit, rises, well-formed}
-use Rattle.nights.proofs.Kept.{Counts, counted, good, fit, options-good, rises as rises-in}
+use Rattle.nights.proofs.Good.{rises}
+use Rattle.nights.proofs.Kept.{counted, good, fit}
 use Rattle.journal_tests.specs.Parts.{optionsHold, recordsHold, countersHold}
 
 -- ---- the parts are the whole
