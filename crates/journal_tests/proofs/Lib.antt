@@ -1,2 +1,3 @@
--- What undoing can break.
+-- What undoing can break, and what the code's undoing tells.
 pub mod Laws
+pub mod Telling
