@@ -11,12 +11,6 @@ use Rattle.nights.specs.Net.{capacity, Plain}
 use Rattle.nights.specs.Journal.{Undone as Told, misfit, undoAs, undoOne, checked}
 use Rattle.nights.proofs.Failing.{first, second}
 
--- ---- records of any sort
-
-either : (b : Bool) (u : Told) → cond b u u ≡ u
-either true u = refl
-either false u = refl
-
 either : (b : Bool) (u : Told) → cond b u u ≡ u
 either true u = refl
 either false u = refl
