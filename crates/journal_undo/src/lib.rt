@@ -48,6 +48,7 @@ pub fn undo_all(w: &mut [u64; WORDS], head: Head, k: u64, journal: &[u64], end: 
     requires { ⌜ (length (now w) ≡ arraySize) × (formedIn head (now w) ≡ true) × (2 ≤ end) × (end ≤ length (now journal)) ⌝ }
     ensures undone { λ u. ⌜ undoneIn u (now (w .exit)) ≡ undoAll k (plainIn head (w .entry .now)) (journal .entry .now) end ⌝ }
     ensures formed { λ u. ⌜ (u .fits ≡ true → (formedIn (u .head) (now (w .exit)) ≡ true)) ⌝ }
+    ensures whole { λ _. ⌜ length (now (w .exit)) ≡ arraySize ⌝ }
 {
     let mut me = Undone {
         fits: true,

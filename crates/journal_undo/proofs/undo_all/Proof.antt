@@ -24,7 +24,7 @@ returns : tie.Need-returns Inv-loop μ-loop
 returns c =
     let u = c .before .before .undo-one in
     let i = c .before .before .before .before .before .loop .inv in
-    (stops _ _ _ _ _ _ _ _ i (omega arith) (u .result) _ (u .ensures) (not-true _ (c .if1 .taken)), u .ensures .1 .0)
+    (stops _ _ _ _ _ _ _ _ i (omega arith) (u .result) _ (u .ensures) (not-true _ (c .if1 .taken)), u .ensures .1)
 
 sub-left : tie.Need-sub-left Inv-loop μ-loop
 sub-left c = omega arith
@@ -41,7 +41,7 @@ loop-again c =
 returns-2 : tie.Need-returns-2 Inv-loop μ-loop
 returns-2 c =
     let i = c .before .loop .inv in
-    (ends _ _ _ _ _ _ _ _ i (omega arith), λ e. i .formed)
+    (ends _ _ _ _ _ _ _ _ i (omega arith), (λ e. i .formed, i .long))
 
 pub undo-all-spec : {M : Type 1} → statement M
 undo-all-spec =
