@@ -1,6 +1,6 @@
--- From a well-formed network, the one that undoing leaves is well formed exactly if the part holds that the record can break: a send's record
--- drops the newest records, so that the others stay good and in order, and writes counters; a take's moves records from the delivered to the
--- pending, so that every sum stays; a change of options writes the options alone. Assumes nothing.
+-- From a well-formed network, the one that undoing leaves is well formed exactly if the part holds that the record can break: a send's
+-- record drops the newest records, so that the others stay good and in order, and writes counters; a take's moves records from the
+-- delivered to the pending, so that every sum stays; a change of options writes the options alone. Assumes nothing.
 use Prim.Native.Nat.{ℕ, _+_, _-_, _≤_}
 use mathlib.Core.Path.{_≡_, refl, sym, _∙_}
 use mathlib.Core.List.{List, [], _∷_}
@@ -105,7 +105,8 @@ module _ (n : Plain) (f : wellFormed n ≡ true) where
           le-leb (n .sent) sentLimit (c .few),
           le-leb (n .lost) (n .sent) (c .lost),
           le-leb (n .replayed) (n .sent) (c .replayed),
-          eq-eqb (n .sent + n .replayed) (n .delivered - length rs + n .lost + length (insertAll rs (n .pending))) (omega (arith, z, few, c .even)),
+          eq-eqb (n .sent + n .replayed) (n .delivered - length rs + n .lost + length (insertAll rs (n .pending)))
+              (omega (arith, z, few, c .even)),
           eq-eqb (n .seq) (n .delivered - length rs + length (insertAll rs (n .pending))) (omega (arith, z, few, c .numbered)),
           le-leb (n .delayed) (n .seq) (c .delayed),
         )

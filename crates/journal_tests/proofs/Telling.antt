@@ -1,5 +1,5 @@
--- What an undoing in place tells. A misfit tells nothing else; and where the words that it left are those of records with zeros behind, they
--- are well formed exactly if their plain form is, so that the test of a part tells the whole. Assumes nothing.
+-- What an undoing in place tells. A misfit tells nothing else; and where the words that it left are those of records with zeros behind,
+-- they are well formed exactly if their plain form is, so that the test of a part tells the whole. Assumes nothing.
 use Prim.Native.Nat.{ℕ, _≤_}
 use mathlib.Core.Path.{_≡_, refl, ap, _∙_}
 use mathlib.Core.List.{List}

@@ -81,7 +81,8 @@ pub record Undoing (k : ℕ) (j : List ℕ) (e : ℕ) (came : Undone) (v : List 
   pub high : me .start ≤ length j
   pub rest : undoAll k (plainIn (came .head) v) j e ≡ undoAll left (plainIn (me .head) w) j (me .start)
 
-module _ (k : ℕ) (j : List ℕ) (e : ℕ) (came : Undone) (v : List ℕ) (me : Undone) (w : List ℕ) (left : ℕ) (inv : Undoing k j e came v me w left) where
+module _ (k : ℕ) (j : List ℕ) (e : ℕ) (came : Undone) (v : List ℕ) (me : Undone) (w : List ℕ) (left : ℕ)
+    (inv : Undoing k j e came v me w left) where
   module _ (h : 0 < left) (u : Undone) (z : List ℕ) (t : Undoes u z (checked (undoOne (plainIn (me .head) w) j (me .start)))) where
     one-less : left ≡ suc (left - 1)
     one-less = omega arith

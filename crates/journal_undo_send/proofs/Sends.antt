@@ -1,5 +1,5 @@
--- What a send's record tells, test by test: a test that fails makes it a misfit, and where none fails the words left are those of the records
--- that stay, and the counters are still to be tested. Assumes nothing.
+-- What a send's record tells, test by test: a test that fails makes it a misfit, and where none fails the words left are those of the
+-- records that stay, and the counters are still to be tested. Assumes nothing.
 use Prim.Native.Nat.{ℕ, _+_, _-_, _*_, _≤_}
 use mathlib.Core.Path.{_≡_, sym, _∙_}
 use mathlib.Core.List.{List, _++_}

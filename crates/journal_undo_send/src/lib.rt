@@ -15,8 +15,10 @@ ghost use Rattle.journal_tests.specs.Undone.{undoneIn};
 // The network before the send whose record stands from `start` up to `end`. The records that are left are still in order and within the
 // number that comes back: the counters alone are tested.
 pub fn undo(w: &mut [u64; WORDS], head: Head, journal: &[u64], start: usize, end: usize) -> Undone
-    requires { ⌜ (length (now w) ≡ arraySize) × (formedIn head (now w) ≡ true) × (2 ≤ start) × (start ≤ end) × (end ≤ length (now journal)) ⌝ }
-    ensures undone { λ u. ⌜ undoneIn u (now (w .exit)) ≡ checked (undoAs 1 (end - start) start (plainIn head (w .entry .now)) (journal .entry .now) end) ⌝ }
+    requires { ⌜ (length (now w) ≡ arraySize) × (formedIn head (now w) ≡ true)
+        × (2 ≤ start) × (start ≤ end) × (end ≤ length (now journal)) ⌝ }
+    ensures undone { λ u. ⌜ undoneIn u (now (w .exit))
+        ≡ checked (undoAs 1 (end - start) start (plainIn head (w .entry .now)) (journal .entry .now) end) ⌝ }
     ensures formed { λ u. ⌜ (u .fits ≡ true → (formedIn (u .head) (now (w .exit)) ≡ true)) ⌝ }
     ensures whole { λ _. ⌜ length (now (w .exit)) ≡ arraySize ⌝ }
 {

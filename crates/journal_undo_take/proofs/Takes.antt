@@ -1,5 +1,5 @@
--- What a take's record tells, test by test: a test that fails makes it a misfit, and where none fails the words left are those of all records
--- in their places, which are still to be tested. Assumes nothing.
+-- What a take's record tells, test by test: a test that fails makes it a misfit, and where none fails the words left are those of all
+-- records in their places, which are still to be tested. Assumes nothing.
 use Prim.Native.Nat.{ℕ, _+_, _-_, _*_, _/_, _≤_, _<_}
 use mathlib.Core.Path.{_≡_, sym, ap, _∙_}
 use mathlib.Core.List.{List}
@@ -20,7 +20,7 @@ use Rattle.network_queue.proofs.Packing.{packed-insertAll}
 use Rattle.network_records.specs.Form.{recordsRise}
 use Rattle.network_form.specs.declared.Head.{Head}
 use Rattle.network_form.specs.Forms.{plainIn, formedIn}
-use Rattle.network_form.proofs.Maps.{plain-formed, small, words-are}
+use Rattle.network_form.proofs.Maps.{plain-formed, words-are}
 use Rattle.journal_tests.proofs.Laws.{take-breaks}
 use Rattle.journal_tests.proofs.Telling.{Undoes, records-are, tested}
 
@@ -110,4 +110,5 @@ module _ (h : Head) (v : List ℕ) (f : formedIn h v ≡ true) (long : length v 
     take-leaves b p k =
         tested untaken w (insertAll rs held) back count fewer (untake rs (plainIn h v)) b p
         (rw (records-back, c))
-        (take-breaks (plainIn h v) (plain-formed h v f) rs (omega (arith, c, few)) (omega (arith, c, held-length, room)) ∙ sym (k ∙ rw records-back))
+        (take-breaks (plainIn h v) (plain-formed h v f) rs (omega (arith, c, few)) (omega (arith, c, held-length, room))
+        ∙ sym (k ∙ rw records-back))

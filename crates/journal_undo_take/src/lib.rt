@@ -51,8 +51,10 @@ fn put_back(w: &mut [u64; WORDS], n: usize, journal: &[u64], b: usize, t: usize)
 // The network before the take whose record stands from `start` up to `end`. What is put back was delivered, so that the counters stay even,
 // and zeros stay behind: the records alone are tested.
 pub fn undo(w: &mut [u64; WORDS], head: Head, journal: &[u64], start: usize, end: usize) -> Undone
-    requires { ⌜ (length (now w) ≡ arraySize) × (formedIn head (now w) ≡ true) × (2 ≤ start) × (start ≤ end) × (end ≤ length (now journal)) ⌝ }
-    ensures undone { λ u. ⌜ undoneIn u (now (w .exit)) ≡ checked (undoAs 2 (end - start) start (plainIn head (w .entry .now)) (journal .entry .now) end) ⌝ }
+    requires { ⌜ (length (now w) ≡ arraySize) × (formedIn head (now w) ≡ true)
+        × (2 ≤ start) × (start ≤ end) × (end ≤ length (now journal)) ⌝ }
+    ensures undone { λ u. ⌜ undoneIn u (now (w .exit))
+        ≡ checked (undoAs 2 (end - start) start (plainIn head (w .entry .now)) (journal .entry .now) end) ⌝ }
     ensures formed { λ u. ⌜ (u .fits ≡ true → (formedIn (u .head) (now (w .exit)) ≡ true)) ⌝ }
     ensures whole { λ _. ⌜ length (now (w .exit)) ≡ arraySize ⌝ }
 {

@@ -30,7 +30,8 @@ fn first_above(w: &[u64; WORDS], n: usize, last: u64) -> usize
 // Those of the first n records whose number is at most `last` move to the front, in their order; how many they are. The first `from` are
 // known to be among them.
 fn keep_front(w: &mut [u64; WORDS], n: usize, from: usize, last: u64) -> usize
-    requires { ⌜ (length (now w) ≡ arraySize) × (n ≤ capacity) × (from ≤ n) × (keep (upTo last) (recs (now w) 0 from) ≡ recs (now w) 0 from) ⌝ }
+    requires { ⌜ (length (now w) ≡ arraySize) × (n ≤ capacity) × (from ≤ n)
+        × (keep (upTo last) (recs (now w) 0 from) ≡ recs (now w) 0 from) ⌝ }
     ensures count { λ m. ⌜ m ≡ length (keep (upTo last) (recs (now (w .entry)) 0 n)) ⌝ }
     ensures words { λ m. ⌜ now (w .exit) ≡ recordWords (keep (upTo last) (recs (now (w .entry)) 0 n)) ++ drop (m * recordSize) (now (w .entry)) ⌝ }
 {

@@ -5,7 +5,7 @@ use mathlib.Core.List.{List}
 use mathlib.Core.Bool.{true}
 use native.Mathlib.Omega.{arith}
 use borrow.Author.Tests.{not-true, not-false}
-use lib.ListN.{length, length-set}
+use lib.ListN.{length-set}
 use Rattle.nights.specs.Journal.{goodHeader}
 use Rattle.network.specs.declared.Network.{Network}
 use Rattle.network.specs.Forms.{networkOf, isFormed}
@@ -85,7 +85,8 @@ returns-3 c =
     let q = c .before .before .before in
     let s = start q in
     let r = c .head-refused3 .ensures in
-    let m = too-far (s .args .k) (network s) (words s) (formed (q .before .before .before)) (good q) (omega (arith, c .before .if3 .taken)) in
+    let m =
+    too-far (s .args .k) (network s) (words s) (formed (q .before .before .before)) (good q) (omega (arith, c .before .if3 .taken)) in
     (λ e. not-done (sym r ∙ e), (r ∙ m .answer, m .words))
 
 slice-read-end : tie.Need-slice-read-end
@@ -108,7 +109,10 @@ returns-4 c =
     let s = start q in
     let u = c .before .before .before .undo-all in
     let r = c .head-refused4 .ensures in
-    let m = no-fit (s .args .k) (network s) (words s) (formed (q .before .before .before)) (good q) (c .before .before .before .before .before .before .before .if3 .left) (u .result) _ (u .ensures .0) (not-true _ (c .before .if4 .taken)) in
+    let near = c .before .before .before .before .before .before .before .if3 .left in
+    let m =
+    no-fit (s .args .k) (network s) (words s) (formed (q .before .before .before)) (good q) near (u .result) _ (u .ensures .0)
+    (not-true _ (c .before .if4 .taken)) in
     (λ e. not-done (sym r ∙ e), (r ∙ m .answer, m .words))
 
 slice-write-journal : tie.Need-slice-write-journal
@@ -125,7 +129,11 @@ returns-5 c =
     let q = c .before .before .before .before .before .before .before .before .before in
     let s = start q in
     let u = c .before .before .before .undo-all in
-    let m = went-back (s .args .k) (network s) (words s) (formed (q .before .before .before)) (good q) (c .before .before .before .before .before .before .before .if3 .left) (u .result) _ (u .ensures .0) (not-false _ (c .before .if4 .left)) (u .ensures .1 .0 (not-false _ (c .before .if4 .left))) (held (c .before .before)) (u .ensures .1 .1) in
+    let near = c .before .before .before .before .before .before .before .if3 .left in
+    let fits = not-false _ (c .before .if4 .left) in
+    let m =
+    went-back (s .args .k) (network s) (words s) (formed (q .before .before .before)) (good q) near (u .result) _ (u .ensures .0) fits
+    (u .ensures .1 .0 fits) (held (c .before .before)) (u .ensures .1 .1) in
     (λ e. m .network, (m .answer, headed (words s) _ _ (top q .long) ∙ m .words))
 
 pub rewind-in-spec : {M : Type 1} → statement M

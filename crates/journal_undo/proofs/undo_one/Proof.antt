@@ -66,8 +66,9 @@ returns-4 : tie.Need-returns-4
 returns-4 c =
     let s = c .before .before .before .before .before .before .before .before in
     let u = c .undo3 .ensures in
-    let w = s .args .w .now in (
-      u .0 w (s .pre .1) ∙ by-sort _ _ _ 3 (c .before .if4 .taken) (omega (arith, c .before .before .before .before .before .if1 .left, s .pre .2)),
+    let w = s .args .w .now in
+    let room = c .before .before .before .before .before .if1 .left in (
+      u .0 w (s .pre .1) ∙ by-sort _ _ _ 3 (c .before .if4 .taken) (omega (arith, room, s .pre .2)),
       (u .1 w (s .pre .1), s .pre .0),
     )
 

@@ -1,16 +1,15 @@
 -- `journal_undo_options::undo` meets its contract: words that are no good probability make no well-formed network. Assumes nothing.
 use Prim.Native.Nat.{ℕ, _+_, _-_, _≤_}
 use mathlib.Core.Path.{_≡_, sym, _∙_}
-use mathlib.Core.Bool.{true}
 use mathlib.Core.List.{List}
 use native.Mathlib.Omega.{arith}
 use borrow.Author.Needs.{needs}
 use borrow.Author.Tests.{not-true, not-false}
 use denote.Floats.{passes}
 use lib.ListN.{getD}
-use Rattle.network_form.specs.Forms.{formedIn}
 use Rattle.journal_tests.proofs.Telling.{misfit-told, misfit-stays}
-use Rattle.journal_undo_options.proofs.Choices.{options-size, bad-flag, bad-loss, bad-replay, options-fit, options-leave, options-stay}
+use Rattle.journal_undo_options.proofs.Choices.{options-size, bad-flag, bad-loss, bad-replay, options-fit}
+use Rattle.journal_undo_options.proofs.Choices.{options-leave, options-stay}
 use Rattle.journal_undo_options.proofs.undo.Statement.{statement}
 use Rattle.journal_undo_options.proofs.undo.Tie as tie
 
@@ -35,11 +34,10 @@ misfit-requires : tie.Need-misfit-requires
 misfit-requires c κs = search needs
 
 returns : tie.Need-returns
-returns c =
-    (
-      λ (w : List ℕ) f. misfit-told (c .misfit .result) (c .misfit .ensures) w (options-size _ _ _ _ _ (c .before .if1 .taken)),
-      λ (w : List ℕ) f. misfit-stays (c .misfit .result) (c .misfit .ensures) w,
-    )
+returns c = (
+  λ (w : List ℕ) f. misfit-told (c .misfit .result) (c .misfit .ensures) w (options-size _ _ _ _ _ (c .before .if1 .taken)),
+  λ (w : List ℕ) f. misfit-stays (c .misfit .result) (c .misfit .ensures) w,
+)
 
 add-flag : tie.Need-add-flag
 add-flag c = search needs
@@ -54,11 +52,10 @@ misfit-requires-2 : tie.Need-misfit-requires-2
 misfit-requires-2 c κs = search needs
 
 returns-2 : tie.Need-returns-2
-returns-2 c =
-    (
-      λ (w : List ℕ) f. misfit-told (c .misfit2 .result) (c .misfit2 .ensures) w (bad-flag _ _ _ _ _ (omega (arith, c .before .if2 .taken))),
-      λ (w : List ℕ) f. misfit-stays (c .misfit2 .result) (c .misfit2 .ensures) w,
-    )
+returns-2 c = (
+  λ (w : List ℕ) f. misfit-told (c .misfit2 .result) (c .misfit2 .ensures) w (bad-flag _ _ _ _ _ (omega (arith, c .before .if2 .taken))),
+  λ (w : List ℕ) f. misfit-stays (c .misfit2 .result) (c .misfit2 .ensures) w,
+)
 
 mul-loss : tie.Need-mul-loss
 mul-loss c = search needs
@@ -77,7 +74,7 @@ returns-3 c =
     let o = c .before .before .before .before in
     let bad = sym (c .before .before .good-word .ensures) ∙ not-true _ (c .before .if3 .taken) in (
       λ (w : List ℕ) f.
-      misfit-told (c .misfit3 .result) (c .misfit3 .ensures) w (bad-loss _ _ _ _ _ bad (seven o) (nine o) (small-flag o)),
+          misfit-told (c .misfit3 .result) (c .misfit3 .ensures) w (bad-loss _ _ _ _ _ bad (seven o) (nine o) (small-flag o)),
       λ (w : List ℕ) f. misfit-stays (c .misfit3 .result) (c .misfit3 .ensures) w,
     )
 
@@ -101,12 +98,13 @@ returns-4 c =
     let o = c .before .before .before .before .before .before .before in
     let bad = sym (c .before .before .good-word2 .ensures) ∙ not-true _ (c .before .if4 .taken) in (
       λ (w : List ℕ) f.
-      misfit-told (c .misfit4 .result) (c .misfit4 .ensures) w (bad-replay _ _ _ _ _ bad (seven o) (nine o) (small-flag o)),
+          misfit-told (c .misfit4 .result) (c .misfit4 .ensures) w (bad-replay _ _ _ _ _ bad (seven o) (nine o) (small-flag o)),
       λ (w : List ℕ) f. misfit-stays (c .misfit4 .result) (c .misfit4 .ensures) w,
     )
 
 of-word-requires : tie.Need-of-word-requires
-of-word-requires c κs = passes _ (sym (c .before .before .before .before .good-word .ensures) ∙ not-false _ (c .before .before .before .if3 .left))
+of-word-requires c κs =
+    passes _ (sym (c .before .before .before .before .good-word .ensures) ∙ not-false _ (c .before .before .before .if3 .left))
 
 of-word-requires-2 : tie.Need-of-word-requires-2
 of-word-requires-2 c κs = passes _ (sym (c .before .before .good-word2 .ensures) ∙ not-false _ (c .before .if4 .left))
@@ -140,7 +138,7 @@ returns-5 c =
     let loss = c .before .before .before .before .of-word .ensures .1 in
     let replay = c .before .before .before .of-word2 .ensures .1 in (
       λ (w : List ℕ) f.
-      options-leave (a .head) w f (a .journal .now) (a .start) _ (rw (loss, replay)) _ (c .good2 .ensures)
+          options-leave (a .head) w f (a .journal .now) (a .start) _ (rw (loss, replay)) _ (c .good2 .ensures)
           ∙ options-fit _ _ _ _ _ (seven o) (nine o) (small-flag o),
       λ (w : List ℕ) f. options-stay (a .head) w f (a .journal .now) (a .start) _ (rw (loss, replay)) _ (c .good2 .ensures),
     )

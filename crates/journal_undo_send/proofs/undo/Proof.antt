@@ -79,7 +79,9 @@ returns-3 c =
     let size = c .before .before .before .before .before .before .before .before .before .before .if1 .left in
     let some = c .before .before .before .before .before .before .before .before .if2 .left in
     let low : 8 ≤ s .args .end = omega (arith, size, s .pre .2, s .pre .3) in
-    let left = send-leaves (s .args .head) (s .args .w .now) (s .pre .1) (s .pre .0) _ _ _ _ _ _ (d .ensures .0) (d .ensures .1) (s .args .start) _ (c .counts-good .ensures) in
+    let left =
+    send-leaves (s .args .head) (s .args .w .now) (s .pre .1) (s .pre .0) _ _ _ _ _ _ (d .ensures .0) (d .ensures .1) (s .args .start) _
+    (c .counts-good .ensures) in
     (left .0 ∙ send-fits _ _ _ _ _ size low some, left .1)
 
 pub undo-spec : {M : Type 1} → statement M

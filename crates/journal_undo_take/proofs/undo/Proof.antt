@@ -1,12 +1,8 @@
 -- `journal_undo_take::undo` meets its contract. Assumes nothing.
-use Prim.Native.Nat.{_+_, _*_, _≤_}
-use mathlib.Core.Path.{_≡_, refl, _∙_}
+use mathlib.Core.Path.{refl, _∙_}
 use native.Mathlib.Omega.{arith}
 use borrow.Author.Needs.{needs}
-use lib.ListN.{length}
-use Rattle.nights.specs.Net.{capacity}
 use Rattle.network_queue.proofs.Inserting.{length-recs}
-use Rattle.network_form.specs.Forms.{plainIn}
 use Rattle.network_form.proofs.Maps.{small}
 use Rattle.journal_tests.proofs.Telling.{told-misfit}
 use Rattle.journal_undo_take.proofs.Takes.{take-size, few-delivered, too-many, take-fits, take-leaves}
@@ -36,7 +32,8 @@ misfit-requires-2 c κs = search needs
 returns-2 : tie.Need-returns-2
 returns-2 c =
     let s = c .before .before .before .before in
-    told-misfit (c .misfit2 .result) (c .misfit2 .ensures) _ (s .pre .0) (take-size _ _ _ _ _ _ refl (λ e. c .before .if2 .taken (omega arith)))
+    told-misfit (c .misfit2 .result) (c .misfit2 .ensures) _ (s .pre .0)
+    (take-size _ _ _ _ _ _ refl (λ e. c .before .if2 .taken (omega arith)))
 
 misfit-requires-3 : tie.Need-misfit-requires-3
 misfit-requires-3 c κs = search needs

@@ -41,7 +41,9 @@ called : (c : tie.After-rewind-in) → let a = start c .args in
 called c = rw (head-read _ _ (else-of c .before .before .load .ensures) (fits (else-of c))) at (c .rewind-in .ensures)
 
 went-back : (c : tie.After-enum-told) → let x = c .before .before .before .before in let a = start x .args in
-    Written (rewind (a .k)) (a .head .now) (a .records .now) (a .journal .now) (fits (else-of x)) (networkOf (x .rewind-in .result .head) (x .rewind-in .last .0)) (x .rewind-in .last .1 .1 .1 .0) (called x .0 (ap settledOf (c .enum-told .given .1))) (called x .1 .1)
+    Written (rewind (a .k)) (a .head .now) (a .records .now) (a .journal .now) (fits (else-of x))
+    (networkOf (x .rewind-in .result .head) (x .rewind-in .last .0)) (x .rewind-in .last .1 .1 .1 .0)
+    (called x .0 (ap settledOf (c .enum-told .given .1))) (called x .1 .1)
 went-back c =
     let x = c .before .before .before .before in
     let e = ap settledOf (c .enum-told .given .1) in

@@ -6,7 +6,8 @@ use Rattle.network_drop.proofs.Keeping.{Moved, ended, same-size, cleare
 use Rattle.network_drop.proofs.drop_above.Statement.{statement}
 use Rattle.network_drop.proofs.drop_above.Tie as tie
 
-moved : (c : tie.After-keep-front) → Moved (c .before .before .before .before .args .w .now) (c .keep-front .last .0) (c .before .before .before .before .args .last) (c .keep-front .result) (c .before .before .before .before .args .n)
+moved : (c : tie.After-keep-front) → let a = c .before .before .before .before .args in
+    Moved (a .w .now) (c .keep-front .last .0) (a .last) (c .keep-front .result) (a .n)
 moved c = ended _ _ _ _ _ (c .keep-front .ensures .0) (c .keep-front .ensures .1)
 
 first-above-requires : tie.Need-first-above-requires
