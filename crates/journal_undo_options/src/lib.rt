@@ -35,17 +35,20 @@ pub fn undo(head: Head, journal: &[u64], start: usize, end: usize) -> Undone
     if !chance::good_word(replay) {
         return journal_tests::misfit(head);
     }
+    let min = journal[start + 2];
+    let mean = journal[start + 3];
     let old = NetworkOptions {
         packet_loss_probability: chance::of_word(loss),
         packet_replay_probability: chance::of_word(replay),
-        one_way_delay_min: journal[start + 2],
-        one_way_delay_mean: journal[start + 3],
+        one_way_delay_min: min,
+        one_way_delay_mean: mean,
         fault_client_messages: flag == 1,
     };
     let mut before = head;
     before.options = old;
+    let fits = old.good();
     Undone {
-        fits: old.good(),
+        fits: fits,
         head: before,
         start: start,
     }

@@ -102,30 +102,33 @@ returns-4 c =
       λ (w : List ℕ) f. misfit-stays (c .misfit4 .result) (c .misfit4 .ensures) w,
     )
 
+add-min : tie.Need-add-min
+add-min c = search needs
+
+mul-min : tie.Need-mul-min
+mul-min c = search needs
+
+shared-slice-read-min : tie.Need-shared-slice-read-min
+shared-slice-read-min c = search needs
+
+add-mean : tie.Need-add-mean
+add-mean c = search needs
+
+mul-mean : tie.Need-mul-mean
+mul-mean c = search needs
+
+shared-slice-read-mean : tie.Need-shared-slice-read-mean
+shared-slice-read-mean c = search needs
+
 of-word-requires : tie.Need-of-word-requires
 of-word-requires c κs =
-    passes _ (sym (c .before .before .before .before .good-word .ensures) ∙ not-false _ (c .before .before .before .if3 .left))
+    let o = c .before .before .before .before .before in
+    passes _ (sym (o .before .good-word .ensures) ∙ not-false _ (o .if3 .left))
 
 of-word-requires-2 : tie.Need-of-word-requires-2
-of-word-requires-2 c κs = passes _ (sym (c .before .before .good-word2 .ensures) ∙ not-false _ (c .before .if4 .left))
-
-add-t10 : tie.Need-add-t10
-add-t10 c = search needs
-
-mul-t12 : tie.Need-mul-t12
-mul-t12 c = search needs
-
-shared-slice-read-t14 : tie.Need-shared-slice-read-t14
-shared-slice-read-t14 c = search needs
-
-add-t21 : tie.Need-add-t21
-add-t21 c = search needs
-
-mul-t22 : tie.Need-mul-t22
-mul-t22 c = search needs
-
-shared-slice-read-t24 : tie.Need-shared-slice-read-t24
-shared-slice-read-t24 c = search needs
+of-word-requires-2 c κs =
+    let o = c .before .before .before in
+    passes _ (sym (o .before .good-word2 .ensures) ∙ not-false _ (o .if4 .left))
 
 good-requires : tie.Need-good-requires
 good-requires c κs = search needs
@@ -135,8 +138,8 @@ returns-5 c =
     let o = c .before .before .before .before .before .before .before .before .before .before .before in
     let s = start o in
     let a = s .args in
-    let loss = c .before .before .before .before .of-word .ensures .1 in
-    let replay = c .before .before .before .of-word2 .ensures .1 in (
+    let loss = c .before .before .of-word .ensures .1 in
+    let replay = c .before .of-word2 .ensures .1 in (
       λ (w : List ℕ) f.
           options-leave (a .head) w f (a .journal .now) (a .start) _ (rw (loss, replay)) _ (c .good2 .ensures)
           ∙ options-fit _ _ _ _ _ (seven o) (nine o) (small-flag o),
@@ -166,13 +169,13 @@ undo-spec =
     good-word-requires-2
     misfit-requires-4
     returns-4
+    add-min
+    mul-min
+    shared-slice-read-min
+    add-mean
+    mul-mean
+    shared-slice-read-mean
     of-word-requires
     of-word-requires-2
-    add-t10
-    mul-t12
-    shared-slice-read-t14
-    add-t21
-    mul-t22
-    shared-slice-read-t24
     good-requires
     returns-5)
