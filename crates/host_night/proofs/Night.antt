@@ -35,7 +35,8 @@ use Rattle.network_layout.proofs.Heads.{a-head}
 use Rattle.network_words.proofs.InPlace.{number-done}
 use Rattle.network_layout.proofs.ReadBack.{read-back, fits-back, of-words}
 use Rattle.network_words.proofs.Fresh.{new-is-fresh}
-use Rattle.journal_words.specs.Calls.{networkOf, networkIn, journalAnswer, journalRecords}
+use Rattle.network.specs.Forms.{networkOf}
+use Rattle.journal_words.specs.Calls.{networkIn, journalAnswer, journalRecords}
 use Rattle.host_night.specs.Night.{Lent, Turn, Written, Chosen, Marked, Called, Night, endOf, callsOf, answered, entriesOf, plainLent, evening, Demand3}
 
 -- what the host holds is the words of a state of the plain form

@@ -1,5 +1,3 @@
 -- Laws that belong to no one function.
-pub mod PuttingBack
 pub mod Telling
-pub mod Leaving
 pub mod Undoing

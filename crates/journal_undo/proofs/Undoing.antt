@@ -10,9 +10,11 @@ use lib.ListN.{length, getD}
 use Rattle.nights.specs.Record.{recs}
 use Rattle.nights.specs.Net.{capacity, Plain, wellFormed}
 use Rattle.nights.specs.Journal.{Undone as Told, misfit, undone, unsend, untake, unchoose, undoAs, undoOne, checked, further, undoAll}
-use Rattle.network.specs.Forms.{plainOf, isFormed}
-use Rattle.journal_undo.specs.declared.Undone.{Undone}
-use Rattle.journal_undo.specs.Undone.{undoneOf}
+use Rattle.network_queue.specs.Packed.{arraySize}
+use Rattle.network_form.specs.Forms.{plainIn, formedIn}
+use Rattle.journal_tests.specs.declared.Undone.{Undone}
+use Rattle.journal_tests.specs.Undone.{undoneIn}
+use Rattle.journal_tests.proofs.Telling.{Undoes}
 use Rattle.journal_undo.proofs.Telling.{no-room}
 
 -- ---- where a record starts
@@ -71,44 +73,47 @@ unfolding undoAll further
 all-on k n w e m c h = rw h
 
 -- after some records the others are still to be undone
-pub record Undoing (k : ℕ) (w : List ℕ) (e : ℕ) (came me : Undone) (left : ℕ) : Type 0 where
+pub record Undoing (k : ℕ) (j : List ℕ) (e : ℕ) (came : Undone) (v : List ℕ) (me : Undone) (w : List ℕ) (left : ℕ) : Type 0 where
   pub fits : me .fits ≡ true
-  pub formed : isFormed (me .network) ≡ true
+  pub formed : formedIn (me .head) w ≡ true
+  pub long : length w ≡ arraySize
   pub low : 2 ≤ me .start
-  pub high : me .start ≤ length w
-  pub rest : undoAll k (plainOf (came .network)) w e ≡ undoAll left (plainOf (me .network)) w (me .start)
+  pub high : me .start ≤ length j
+  pub rest : undoAll k (plainIn (came .head) v) j e ≡ undoAll left (plainIn (me .head) w) j (me .start)
 
-module _ (k : ℕ) (w : List ℕ) (e : ℕ) (came me : Undone) (left : ℕ) (inv : Undoing k w e came me left) where
-  module _ (h : 0 < left) (u : Undone) (t : undoneOf u ≡ checked (undoOne (plainOf (me .network)) w (me .start))) where
+module _ (k : ℕ) (j : List ℕ) (e : ℕ) (came : Undone) (v : List ℕ) (me : Undone) (w : List ℕ) (left : ℕ)
+    (inv : Undoing k j e came v me w left) where
+  module _ (h : 0 < left) (u : Undone) (z : List ℕ) (t : Undoes u z (checked (undoOne (plainIn (me .head) w) j (me .start)))) where
     one-less : left ≡ suc (left - 1)
     one-less = omega arith
 
-    pub stops : u .fits ≡ false → undoneOf u ≡ undoAll k (plainOf (came .network)) w e
-    unfolding undoneOf
+    pub stops : u .fits ≡ false → undoneIn u z ≡ undoAll k (plainIn (came .head) v) j e
+    unfolding undoneIn
     stops f =
-        let d : undoneOf u ≡ misfit = rw f in
+        let d : undoneIn u z ≡ misfit = rw f in
         d
         ∙ sym
         (inv .rest
-        ∙ (ap (λ (j : ℕ). undoAll j (plainOf (me .network)) w (me .start)) one-less
-        ∙ all-stop (left - 1) (plainOf (me .network)) w (me .start) (sym t ∙ d)))
+        ∙ (ap (λ (i : ℕ). undoAll i (plainIn (me .head) w) j (me .start)) one-less
+        ∙ all-stop (left - 1) (plainIn (me .head) w) j (me .start) (sym (t .0) ∙ d)))
 
-    pub goes-on : u .fits ≡ true → isFormed (u .network) ≡ true → Undoing k w e came u (left - 1)
-    unfolding undoneOf
-    goes-on f g =
-        let d : checked (undoOne (plainOf (me .network)) w (me .start)) ≡ undone (plainOf (u .network)) (u .start) = sym t ∙ rw f in
-        let s = starts (plainOf (me .network)) w (me .start) (plainOf (u .network)) (u .start) d in
+    pub goes-on : u .fits ≡ true → Undoing k j e came v u z (left - 1)
+    unfolding undoneIn
+    goes-on f =
+        let d : checked (undoOne (plainIn (me .head) w) j (me .start)) ≡ undone (plainIn (u .head) z) (u .start) = sym (t .0) ∙ rw f in
+        let s = starts (plainIn (me .head) w) j (me .start) (plainIn (u .head) z) (u .start) d in
         record {
           fits = f;
-          formed = g;
+          formed = t .1 .0 f;
+          long = t .1 .1;
           low = s .0;
           high = omega (arith, s .1, inv .high);
           rest =
               inv .rest
-              ∙ (ap (λ (j : ℕ). undoAll j (plainOf (me .network)) w (me .start)) one-less
-              ∙ all-on (left - 1) (plainOf (me .network)) w (me .start) (plainOf (u .network)) (u .start) d);
+              ∙ (ap (λ (i : ℕ). undoAll i (plainIn (me .head) w) j (me .start)) one-less
+              ∙ all-on (left - 1) (plainIn (me .head) w) j (me .start) (plainIn (u .head) z) (u .start) d);
         }
 
-  pub ends : left ≤ 0 → undoneOf me ≡ undoAll k (plainOf (came .network)) w e
-  unfolding undoneOf undoAll
+  pub ends : left ≤ 0 → undoneIn me w ≡ undoAll k (plainIn (came .head) v) j e
+  unfolding undoneIn undoAll
   ends h = let z : left ≡ 0 = omega arith in sym (inv .rest ∙ rw (z, inv .fits))

@@ -4,15 +4,12 @@ use mathlib.Core.List.{List}
 use Prim.Native.Nat.{ℕ}
 use Rattle.nights.specs.Tests.{Answer, ifDone}
 use Rattle.nights.specs.Journal.{Call}
-use Rattle.network_form.specs.declared.Head.{Head}
 use Rattle.network.specs.declared.Network.{Network}
+use Rattle.network.specs.Forms.{networkOf}
 use Rattle.journal_calls.specs.Calls.{answerOf, wordsAfter, networkAfter}
 use Rattle.network_layout.specs.Layout.{headIn, headWords, ifHead}
 
--- the network of a head and its records, and that of a head's words and records
-abbrev pub networkOf : Head → List ℕ → Network
-networkOf h w = record { head = h; words = w }
-
+-- the network of a head's words and its records
 abbrev pub networkIn : List ℕ → List ℕ → Network
 networkIn h r = networkOf (headIn h) r
 

@@ -1,6 +1,6 @@
 // The journal over lent words: a network's head and records as in `network_words`, and the journal's own words. A call answers 0, or
 // the number of its refusal; then no lent word is changed, those lent for the answer included. The network is read into a value and
-// written back, since a journaled call can still be refused once its network is known.
+// written back, since a journaled call can still be refused once its network is known; a rewind works in place and keeps what came.
 use network::Network;
 use network_form::Head;
 use network_layout::HEAD_WORDS;
@@ -21,11 +21,11 @@ ghost use Rattle.nights.specs.Net.{keep, isDue};
 ghost use Rattle.nights.specs.Draws.{decided};
 ghost use Rattle.nights.specs.Journal.{rewind};
 ghost use Rattle.network_options.specs.Answers.{settledOf};
-ghost use Rattle.network.specs.Forms.{plainOf, isFormed};
+ghost use Rattle.network.specs.Forms.{networkOf, plainOf, isFormed};
 ghost use Rattle.network_options.specs.Options.{structOptions};
 ghost use Rattle.network_form.specs.Calls.{written};
 ghost use Rattle.network_layout.specs.Layout.{optionsFrom, headWords, answerCode};
-ghost use Rattle.journal_words.specs.Calls.{networkOf, networkIn, journalAnswer, journalHead, journalRecords, journalWords};
+ghost use Rattle.journal_words.specs.Calls.{networkIn, journalAnswer, journalHead, journalRecords, journalWords};
 ghost use Rattle.network_words.specs.Calls.{sendTold};
 ghost use Rattle.nights.specs.Tests.{ifDone};
 ghost use Rattle.journal_calls.specs.Calls.{sends, takes, chooses, markAnswer, markWords};
@@ -234,7 +234,7 @@ pub fn set_options(
     network_options::number_of(refusal)
 }
 
-// Goes back over the last k calls held.
+// Goes back over the last k calls held, in place: what came is kept, and put back on a refusal.
 pub fn rewind(
     head: &mut [u64; HEAD_WORDS],
     records: &mut [u64; WORDS],
@@ -250,12 +250,14 @@ pub fn rewind(
     if !loaded.fits {
         return ILL_FORMED;
     }
-    let network = read(loaded.head, records);
-    let next = journal_rewind::rewind(network, k, journal);
+    network_queue::whole(records);
+    let came = *records;
+    let next = journal_rewind::rewind_in(records, loaded.head, k, journal);
     let answer = next.answer;
     let Settled::Refused(refusal) = answer else {
-        write(next.network, head, records);
+        network_layout::store(next.head, head);
         return 0;
     };
+    *records = came;
     network_options::number_of(refusal)
 }

@@ -1,18 +1,18 @@
 -- The records numbered at most `last` move to the front: the walk of `keep_front`, and the zeros that follow them. Assumes nothing.
 use Prim.Native.Nat.{ℕ, zero, suc, _+_, _-_, _*_, _≤_, _<_}
-use mathlib.Core.Path.{_≡_, refl, ap, _∙_}
+use mathlib.Core.Path.{_≡_, refl, sym, ap, _∙_}
 use mathlib.Core.List.{List, [], _∷_, _++_, append-assoc, append-nil}
 use mathlib.Core.Bool.{true, false}
 use native.Mathlib.Omega.{arith}
 use native.Mathlib.Numerals.{add-one}
 use borrow.Author.Tests.{le-leb, lt-leb}
-use lib.ListN.{length, take, drop, getD, replicate, length-drop, length-append}
+use lib.ListN.{length, take, drop, getD, replicate, length-drop, length-append, take-append-drop}
 use lib.Seq.{getD-append-add, getD-drop, take-at, drop-append-add, drop-drop}
 use Rattle.nights.specs.Record.{Record, words, recordWords, recordAt, recs}
 use Rattle.nights.specs.Net.{keep}
 use Rattle.nights.proofs.Order.{keep-append, length-split}
 use Rattle.nights.proofs.Undo.{length-recordWords}
-use Rattle.network_queue.proofs.Inserting.{length-recs}
+use Rattle.network_queue.proofs.Inserting.{length-recs, recordWords-recs}
 use Rattle.network_drop.specs.Numbered.{upTo}
 
 recs-snoc : (w : List ℕ) (b i : ℕ) → recs w b (suc i) ≡ recs w b i ++ (recordAt w (b + i * 8) ∷ [])
@@ -40,9 +40,28 @@ pub record Moved (v w : List ℕ) (last m i : ℕ) : Type 0 where
   pub count : m ≡ length (kept v last i)
   pub front : w ≡ recordWords (kept v last i) ++ drop (m * 8) v
 
-pub start : (v : List ℕ) (last : ℕ) → Moved v v last 0 0
-unfolding recs keep recordWords
-start v last = record { within = omega arith; count = refl; front = refl }
+-- the first are known to be kept
+pub start : (v : List ℕ) (last from : ℕ) → from * 8 ≤ length v → kept v last from ≡ recs v 0 from → Moved v v last from from
+start v last from h e =
+    let a : recordWords (recs v 0 from) ≡ take (from * 8) v = recordWords-recs v 0 from (omega arith) in
+    record {
+      within = omega arith;
+      count = rw (e, length-recs v 0 from);
+      front = rw (e, a) (sym (take-append-drop (from * 8) v));
+    }
+
+one-behind : (v : List ℕ) (i : ℕ) → recs v 0 (i + 1) ≡ recs v 0 i ++ (recordAt v (i * 8) ∷ [])
+one-behind v i = let z : 0 + i * 8 ≡ i * 8 = omega arith in rw (add-one i) (rw z at (recs-snoc v 0 i))
+
+-- the walk of `first_above`: one more that stays
+pub stay-start : (v : List ℕ) (last : ℕ) → kept v last 0 ≡ recs v 0 0
+unfolding recs keep
+stay-start v last = refl
+
+pub stay-on : (v : List ℕ) (last i : ℕ) → kept v last i ≡ recs v 0 i → getD v (i * 8 + 1) 0 ≤ last → kept v last (i + 1) ≡ recs v 0 (i + 1)
+unfolding keep
+stay-on v last i e h =
+    rw (one-behind v i, keep-append (upTo last) (recs v 0 i) (recordAt v (i * 8) ∷ []), e, le-leb (getD v (i * 8 + 1) 0) last h)
 
 -- what `keep_front` tells
 pub ended : (v w : List ℕ) (last m i : ℕ) → m ≡ length (kept v last i) → w ≡ recordWords (kept v last i) ++ drop (m * 8) v → Moved v w last m i
@@ -101,9 +120,6 @@ module _ (v w : List ℕ) (last m i : ℕ) (inv : Moved v w last m i) where
         as-came (i * 8 + 7) (omega arith),
       )
 
-  one-more : recs v 0 (i + 1) ≡ recs v 0 i ++ (recordAt v (i * 8) ∷ [])
-  one-more = let z : 0 + i * 8 ≡ i * 8 = omega arith in rw (add-one i) (rw z at (recs-snoc v 0 i))
-
   module _ (x : Record) (e : x ≡ recordAt w (i * 8)) where
     is-came : x ≡ recordAt v (i * 8)
     is-came = e ∙ record-as-came
@@ -114,7 +130,7 @@ module _ (v w : List ℕ) (last m i : ℕ) (inv : Moved v w last m i) where
     pass-over h =
         let s : upTo last (recordAt v (i * 8)) ≡ false = rw is-came at (lt-leb (x .seq) last h) in
         let k : kept v last (i + 1) ≡ kept v last i =
-        ap (keep (upTo last)) one-more
+        ap (keep (upTo last)) (one-behind v i)
         ∙ (keep-append (upTo last) (recs v 0 i) (recordAt v (i * 8) ∷ []) ∙ rw (s, append-nil)) in
         record { within = omega (arith, inv .within); count = rw k (inv .count); front = rw k (inv .front) }
 
@@ -124,7 +140,7 @@ module _ (v w : List ℕ) (last m i : ℕ) (inv : Moved v w last m i) where
     move-up z h q =
         let s : upTo last (recordAt v (i * 8)) ≡ true = rw is-came at (le-leb (x .seq) last h) in
         let k : kept v last (i + 1) ≡ kept v last i ++ (x ∷ []) =
-        ap (keep (upTo last)) one-more
+        ap (keep (upTo last)) (one-behind v i)
         ∙ (keep-append (upTo last) (recs v 0 i) (recordAt v (i * 8) ∷ []) ∙ rw (s, is-came)) in
         let u : m * 8 + 8 ≡ (m + 1) * 8 = omega arith in
         let b : drop (m * 8 + 8) w ≡ drop ((m + 1) * 8) v = rw u (rest-as-came ((m + 1) * 8) (omega arith)) in

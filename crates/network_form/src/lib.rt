@@ -28,7 +28,7 @@ pub struct Head {
 }
 
 // The counters, over whole numbers. The sums are taken once their parts are known to be small, so none wraps.
-fn counts_good(
+pub fn counts_good(
     pending: usize,
     seq: u64,
     sent: u64,

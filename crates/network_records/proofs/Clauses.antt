@@ -7,9 +7,8 @@ use native.Mathlib.Omega.{arith}
 use lib.ListN.{drop}
 use Rattle.nights.specs.Record.{recordSize, recs}
 use Rattle.nights.specs.Net.{every, goodRecord, rising}
-use Rattle.nights.proofs.Failing.{first, second}
 use Rattle.network_queue.specs.Packed.{zeros}
-use Rattle.network_records.specs.Form.{inOrder, distinct, recordsFormed}
+use Rattle.network_records.specs.Form.{inOrder, distinct, recordsRise, recordsFormed}
 use Rattle.network_records.proofs.Formed.{walks-tell}
 
 grouped : (a b z : Bool) → (a && b) && z ≡ a && (b && z)
@@ -17,16 +16,22 @@ grouped true b z = refl
 grouped false b z = refl
 
 module _ (w : List ℕ) (n q : ℕ) where
-  told : recordsFormed w n q ≡ (inOrder q 0 0 (recs w 0 n) && distinct (recs w 0 n)) && zeros (drop (recordSize * n) w)
-  unfolding recordsFormed
-  told = sym (grouped (every (goodRecord q) (recs w 0 n)) (rising (recs w 0 n)) _) ∙ rw (walks-tell q (recs w 0 n))
+  told : recordsRise w n q ≡ inOrder q 0 0 (recs w 0 n) && distinct (recs w 0 n)
+  told = sym (walks-tell q (recs w 0 n))
 
-  pub order-fails : inOrder q 0 0 (recs w 0 n) ≡ false → false ≡ recordsFormed w n q
+  pub order-fails : inOrder q 0 0 (recs w 0 n) ≡ false → false ≡ recordsRise w n q
   order-fails e = sym (told ∙ rw e)
 
-  pub numbers-fail : distinct (recs w 0 n) ≡ false → false ≡ recordsFormed w n q
-  numbers-fail e = sym (told ∙ first _ _ (second (inOrder q 0 0 (recs w 0 n)) _ e))
+  pub numbers-tell : inOrder q 0 0 (recs w 0 n) ≡ true → {b : Bool} → b ≡ distinct (recs w 0 n) → b ≡ recordsRise w n q
+  numbers-tell a e = e ∙ sym (told ∙ rw a)
 
-  pub records-told : inOrder q 0 0 (recs w 0 n) ≡ true → distinct (recs w 0 n) ≡ true → {b : Bool} → b ≡ zeros (drop (n * recordSize) w)
-      → b ≡ recordsFormed w n q
-  records-told a e h = let z : n * recordSize ≡ recordSize * n = omega arith in (rw z at h) ∙ sym (told ∙ rw (a, e))
+  -- with the zeros
+  whole : recordsFormed w n q ≡ recordsRise w n q && zeros (drop (recordSize * n) w)
+  unfolding recordsFormed
+  whole = sym (grouped (every (goodRecord q) (recs w 0 n)) (rising (recs w 0 n)) _)
+
+  pub rise-fails : recordsRise w n q ≡ false → false ≡ recordsFormed w n q
+  rise-fails e = sym (whole ∙ rw e)
+
+  pub zeros-tell : recordsRise w n q ≡ true → {b : Bool} → b ≡ zeros (drop (n * recordSize) w) → b ≡ recordsFormed w n q
+  zeros-tell e h = let z : n * recordSize ≡ recordSize * n = omega arith in (rw z at h) ∙ sym (whole ∙ rw e)

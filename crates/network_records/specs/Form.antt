@@ -27,7 +27,11 @@ unfoldable pub distinct : List Record → Bool
 distinct [] = true
 distinct (x ∷ xs) = not (among (x .seq) xs) && distinct xs
 
--- each record good, all of them rising, and zeros behind
+-- each record good and all of them rising
+abbrev pub recordsRise : List ℕ → ℕ → ℕ → Bool
+recordsRise w n q = every (goodRecord q) (recs w 0 n) && rising (recs w 0 n)
+
+-- the same, and zeros behind
 unfoldable pub recordsFormed : List ℕ → ℕ → ℕ → Bool
 recordsFormed w n q =
     every (goodRecord q) (recs w 0 n) && (rising (recs w 0 n) && zeros (drop (recordSize * n) w))

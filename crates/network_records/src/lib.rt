@@ -13,7 +13,7 @@ ghost use Rattle.nights.specs.Record.{recordSize, recs};
 ghost use Rattle.nights.specs.Net.{capacity};
 ghost use Rattle.network_queue.specs.Plain.{plainRecord};
 ghost use Rattle.network_queue.specs.Packed.{arraySize, zeros};
-ghost use Rattle.network_records.specs.Form.{mayFollow, inOrder, among, distinct, recordsFormed};
+ghost use Rattle.network_records.specs.Form.{mayFollow, inOrder, among, distinct, recordsRise, recordsFormed};
 
 // Where a record has its number.
 const SEQ: usize = 1;
@@ -172,18 +172,26 @@ fn zero_from(w: &[u64; WORDS], n: usize) -> bool
     (a | b | c | d) == 0
 }
 
-// The records: each good, in order, none numbered twice, and zeros behind them. What the quick walk can't tell the two others do.
-pub fn records_good(w: &[u64; WORDS], n: usize, seq: u64) -> bool
-    requires { ⌜ (length (now w) ≡ arraySize) × (n ≤ capacity) ⌝ }
-    ensures { λ b. ⌜ b ≡ recordsFormed (now (w .entry)) n seq ⌝ }
+// Whether the first n records are each good, in order, and none is numbered twice. What the quick walk can't tell the two others do.
+pub fn records_rise(w: &[u64; WORDS], n: usize, seq: u64) -> bool
+    requires { ⌜ n ≤ capacity ⌝ }
+    ensures { λ b. ⌜ b ≡ recordsRise (now (w .entry)) n seq ⌝ }
 {
     if quickly_good(w, n, seq) {
-        return zero_from(w, n);
+        return true;
     }
     if !in_order(w, n, seq) {
         return false;
     }
-    if !none_twice(w, n) {
+    none_twice(w, n)
+}
+
+// The records: each good, in order, none numbered twice, and zeros behind them.
+pub fn records_good(w: &[u64; WORDS], n: usize, seq: u64) -> bool
+    requires { ⌜ (length (now w) ≡ arraySize) × (n ≤ capacity) ⌝ }
+    ensures { λ b. ⌜ b ≡ recordsFormed (now (w .entry)) n seq ⌝ }
+{
+    if !records_rise(w, n, seq) {
         return false;
     }
     zero_from(w, n)

@@ -2,7 +2,8 @@
 use mathlib.Core.Path.{_∙_}
 use native.Mathlib.Omega.{arith}
 use borrow.Author.Needs.{needs}
-use Rattle.journal_undo.proofs.Telling.{told-misfit, no-room, no-sort, by-sort}
+use Rattle.journal_tests.proofs.Telling.{told-misfit}
+use Rattle.journal_undo.proofs.Telling.{no-room, no-sort, by-sort}
 use Rattle.journal_undo.proofs.undo_one.Statement.{statement}
 use Rattle.journal_undo.proofs.undo_one.Tie as tie
 
@@ -23,7 +24,8 @@ misfit-requires c κs = search needs
 
 returns : tie.Need-returns
 returns c =
-    told-misfit (c .misfit .result) (c .before .before .before .before .pre .0) (c .misfit .ensures) (no-room _ _ _ (omega (arith, c .before .if1 .taken)))
+    let s = c .before .before .before .before in
+    told-misfit (c .misfit .result) (c .misfit .ensures) _ (s .pre .0) (no-room _ _ _ (omega (arith, c .before .if1 .taken)))
 
 sub-start : tie.Need-sub-start
 sub-start c = search needs
@@ -37,33 +39,46 @@ mul-sort c = search needs
 shared-slice-read-sort : tie.Need-shared-slice-read-sort
 shared-slice-read-sort c = search needs
 
-undo-send-requires : tie.Need-undo-send-requires
-undo-send-requires c κs = search needs
+undo-requires : tie.Need-undo-requires
+undo-requires c κs = search needs
 
 returns-2 : tie.Need-returns-2
 returns-2 c =
-    (c .undo-send .ensures .0 ∙ by-sort _ _ _ 1 (c .before .if2 .taken) (omega (arith, c .before .before .before .if1 .left, c .before .before .before .before .before .before .pre)), c .undo-send .ensures .1)
+    let b = c .before .before in
+    let s = b .before .before .before .before .before in
+    let u = c .undo .ensures in
+    (u .0 ∙ by-sort _ _ _ 1 (b .if2 .taken) (omega (arith, b .before .before .if1 .left, s .pre .2)), u .1)
 
-undo-take-requires : tie.Need-undo-take-requires
-undo-take-requires c κs = search needs
+undo-requires-2 : tie.Need-undo-requires-2
+undo-requires-2 c κs = search needs
 
 returns-3 : tie.Need-returns-3
 returns-3 c =
-    (c .undo-take .ensures .0 ∙ by-sort _ _ _ 2 (c .before .if3 .taken) (omega (arith, c .before .before .before .before .if1 .left, c .before .before .before .before .before .before .before .pre)), c .undo-take .ensures .1)
+    let b = c .before .before in
+    let s = b .before .before .before .before .before .before in
+    let u = c .undo2 .ensures in
+    (u .0 ∙ by-sort _ _ _ 2 (b .if3 .taken) (omega (arith, b .before .before .before .if1 .left, s .pre .2)), u .1)
 
-undo-options-requires : tie.Need-undo-options-requires
-undo-options-requires c κs = search needs
+undo-requires-3 : tie.Need-undo-requires-3
+undo-requires-3 c κs = search needs
 
 returns-4 : tie.Need-returns-4
 returns-4 c =
-    (c .undo-options .ensures .0 ∙ by-sort _ _ _ 3 (c .before .if4 .taken) (omega (arith, c .before .before .before .before .before .if1 .left, c .before .before .before .before .before .before .before .before .pre)), c .undo-options .ensures .1)
+    let s = c .before .before .before .before .before .before .before .before in
+    let u = c .undo3 .ensures in
+    let w = s .args .w .now in
+    let room = c .before .before .before .before .before .if1 .left in (
+      u .0 w (s .pre .1) ∙ by-sort _ _ _ 3 (c .before .if4 .taken) (omega (arith, room, s .pre .2)),
+      (u .1 w (s .pre .1), s .pre .0),
+    )
 
 misfit-requires-2 : tie.Need-misfit-requires-2
 misfit-requires-2 c κs = search needs
 
 returns-5 : tie.Need-returns-5
 returns-5 c =
-    told-misfit (c .misfit2 .result) (c .before .before .before .before .before .before .before .before .pre .0) (c .misfit2 .ensures)
+    let s = c .before .before .before .before .before .before .before .before in
+    told-misfit (c .misfit2 .result) (c .misfit2 .ensures) _ (s .pre .0)
     (no-sort _ _ _ (c .before .before .before .if2 .left) (c .before .before .if3 .left) (c .before .if4 .left))
 
 pub undo-one-spec : {M : Type 1} → statement M
@@ -80,11 +95,11 @@ undo-one-spec =
     sub-sort
     mul-sort
     shared-slice-read-sort
-    undo-send-requires
+    undo-requires
     returns-2
-    undo-take-requires
+    undo-requires-2
     returns-3
-    undo-options-requires
+    undo-requires-3
     returns-4
     misfit-requires-2
     returns-5)

@@ -13,14 +13,14 @@ use Rattle.network_form.specs.declared.Head.{Head}
 use Rattle.network.specs.declared.Network.{Network}
 use Rattle.network_options.specs.Answers.{settledOf}
 use Rattle.network_options.specs.Options.{plainOptions}
-use Rattle.network.specs.Forms.{isFormed}
+use Rattle.network.specs.Forms.{networkOf, isFormed}
 use Rattle.network.specs.Calls.{callAnswer}
 use Rattle.network_options.proofs.OptionForms.{good-done}
 use Rattle.network.proofs.Structs.{call-ill}
 use Rattle.journal_calls.specs.Calls.{chooses, answerOf}
 use Rattle.journal_calls.proofs.Journaled.{Met, refused-first}
 use Rattle.network_layout.specs.Layout.{headFits, headWords, optionsFrom}
-use Rattle.journal_words.specs.Calls.{networkIn, journalAnswer, networkOf}
+use Rattle.journal_words.specs.Calls.{networkIn, journalAnswer}
 use Rattle.network_layout.proofs.Heads.{told-fits, head-read}
 use Rattle.journal_words.proofs.Told.{Kept, unread, read-kept}
 use Rattle.network_words.proofs.Told.{number-refused}

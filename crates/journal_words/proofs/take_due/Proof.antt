@@ -12,11 +12,11 @@ use Rattle.nights.specs.Journal.{Call}
 use Rattle.network_form.specs.declared.Head.{Head}
 use Rattle.network.specs.declared.Network.{Network}
 use Rattle.network_take.specs.Takes.{countedOf, counting}
-use Rattle.network.specs.Forms.{plainOf}
+use Rattle.network.specs.Forms.{networkOf, plainOf}
 use Rattle.network_form.specs.Calls.{written}
 use Rattle.journal_calls.specs.Calls.{takes, answerOf, networkAfter, wordsAfter}
 use Rattle.network_layout.specs.Layout.{headFits}
-use Rattle.journal_words.specs.Calls.{networkIn, journalAnswer, networkOf}
+use Rattle.journal_words.specs.Calls.{networkIn, journalAnswer}
 use Rattle.network_layout.proofs.Heads.{told-fits, head-read, a-head}
 use Rattle.journal_words.proofs.Told.{Kept, unread}
 use Rattle.network_words.proofs.Told.{taken-refused, taken-done, taken-told}

@@ -6,8 +6,12 @@ use Rattle.network_drop.proofs.Keeping.{Moved, ended, same-size, cleare
 use Rattle.network_drop.proofs.drop_above.Statement.{statement}
 use Rattle.network_drop.proofs.drop_above.Tie as tie
 
-moved : (c : tie.After-keep-front) → Moved (c .before .before .args .w .now) (c .keep-front .last .0) (c .before .before .args .last) (c .keep-front .result) (c .before .before .args .n)
+moved : (c : tie.After-keep-front) → let a = c .before .before .before .before .args in
+    Moved (a .w .now) (c .keep-front .last .0) (a .last) (c .keep-front .result) (a .n)
 moved c = ended _ _ _ _ _ (c .keep-front .ensures .0) (c .keep-front .ensures .1)
+
+first-above-requires : tie.Need-first-above-requires
+first-above-requires c κs = search needs
 
 keep-front-requires : tie.Need-keep-front-requires
 keep-front-requires c κs = search needs
@@ -33,4 +37,4 @@ returns c =
 
 pub drop-above-spec : {M : Type 1} → statement M
 drop-above-spec =
-    tie.close (tie.spec keep-front-requires mul-clear mul-clear-2 clear-requires returns)
+    tie.close (tie.spec first-above-requires keep-front-requires mul-clear mul-clear-2 clear-requires returns)

@@ -8,13 +8,13 @@ use Rattle.network_drop.proofs.keep_front.Statement.{statement}
 use Rattle.network_drop.proofs.keep_front.Tie as tie
 
 abbrev Inv-loop : tie.InvT-loop
-Inv-loop w₀ n last m₀ i₀ w m i = (i ≤ n) × Moved w₀ w last m i
+Inv-loop w₀ n from last m₀ i₀ w m i = (i ≤ n) × Moved w₀ w last m i
 
 abbrev μ-loop : tie.MeasureT-loop
-μ-loop w₀ n last m₀ i₀ w m i = n - i
+μ-loop w₀ n from last m₀ i₀ w m i = n - i
 
 loop-holds : tie.Need-loop-holds Inv-loop μ-loop
-loop-holds c = (omega arith, start _ _)
+loop-holds c = let p = c .pre in (omega arith, start _ _ _ (omega arith) (p .3))
 
 mul-record-at : tie.Need-mul-record-at Inv-loop μ-loop
 mul-record-at c = omega arith

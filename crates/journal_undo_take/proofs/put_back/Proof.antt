@@ -1,9 +1,9 @@
--- `journal_undo::put_back` meets its contract: the walk of `PuttingBack`. Assumes nothing.
+-- `journal_undo_take::put_back` meets its contract: the walk of `PuttingBack`. Assumes nothing.
 use Prim.Native.Nat.{_-_}
 use native.Mathlib.Omega.{arith}
-use Rattle.journal_undo.proofs.PuttingBack.{Putting, start, put-one, all-put}
-use Rattle.journal_undo.proofs.put_back.Statement.{statement}
-use Rattle.journal_undo.proofs.put_back.Tie as tie
+use Rattle.journal_undo_take.proofs.PuttingBack.{Putting, start, put-one, all-put}
+use Rattle.journal_undo_take.proofs.put_back.Statement.{statement}
+use Rattle.journal_undo_take.proofs.put_back.Tie as tie
 
 abbrev Inv-loop : tie.InvT-loop
 Inv-loop w₀ n journal b t i₀ w i = Putting w₀ n journal b t w i
