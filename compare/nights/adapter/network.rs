@@ -91,6 +91,11 @@ impl Network {
         due.into_iter().map(envelope).collect()
     }
 
+    /// The records of the last take.
+    pub(super) fn taken(&self) -> &[u64] {
+        self.network.taken()
+    }
+
     /// Draws from a copy of the generator: how many words of it a message uses only the answer tells. A probability of 1
     /// uses no draw, and one of 0 none in a send.
     fn lend(&self, kind: Kind, rng: &ChaCha8Rng) -> Lent {
@@ -180,7 +185,7 @@ fn sampled(options: &NetworkOptions) -> extended::NetworkOptions {
     }
 }
 
-pub(super) fn origin(from: Origin) -> bellmantle::Origin {
+fn origin(from: Origin) -> bellmantle::Origin {
     match from {
         Origin::Replica(id) => bellmantle::Origin::Replica(id as u64),
         Origin::Client(id) => bellmantle::Origin::Client(id as u64),

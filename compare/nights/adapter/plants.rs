@@ -2,7 +2,6 @@
 //! simulator keeps its fields, as the rest of it reads and writes them: they are the library's words before a call and
 //! after it.
 
-use super::network::origin;
 use super::{Envelope, Fault, NetworkOptions, Simulator};
 use crate::limits::refused;
 use bellmantle::{Plants, Verdict};
@@ -70,21 +69,20 @@ pub(super) fn tick_network(simulator: &mut Simulator) {
     simulator.flush();
     let due = simulator.network.take_due(simulator.ticks);
     if !due.is_empty() {
-        let plants = read(simulator);
-        for envelope in due {
-            deliver(simulator, &plants, envelope);
+        // A delivery changes no plant's state, so that all verdicts are asked for before the first of them.
+        let verdicts = read(simulator).verdicts(simulator.network.taken());
+        let verdicts = verdicts.unwrap_or_else(|r| refused(r));
+        for (envelope, verdict) in due.into_iter().zip(verdicts) {
+            deliver(simulator, verdict, envelope);
         }
     }
     simulator.flush();
 }
 
-fn deliver(simulator: &mut Simulator, plants: &Plants, envelope: Envelope) {
-    let Envelope {
-        from, to, message, ..
-    } = envelope;
+fn deliver(simulator: &mut Simulator, verdict: Verdict, envelope: Envelope) {
+    let Envelope { to, message, .. } = envelope;
     let ticks = simulator.ticks;
-    let verdict = plants.verdict(origin(from), to as u64);
-    match verdict.unwrap_or_else(|r| refused(r)) {
+    match verdict {
         Verdict::ReceiverDown => debug!("tick {ticks}: drop {message:?} to crashed {to}"),
         Verdict::CutOff => debug!("tick {ticks}: drop {message:?} to {to}: partitioned"),
         Verdict::Deliver => {

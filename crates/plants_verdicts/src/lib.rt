@@ -130,9 +130,9 @@ fn told_on(words: &[u64; WORDS], sort: u64, id: u64, to: u64) -> u64
     Verdict::Deliver.number()
 }
 
-// The first refusal among the records, or what the state answers.
-fn first_refusal(words: &[u64; WORDS], state: u64, records: &[u64], count: usize) -> u64
-    requires { ⌜ (length (now words) ≡ stateSize) × (state ≡ stateAnswer (now words))
+// The first refusal among the records, or else the last number, which is what the state answers.
+fn first_refusal(words: &[u64; WORDS], last: u64, records: &[u64], count: usize) -> u64
+    requires { ⌜ (length (now words) ≡ stateSize) × (last ≡ stateAnswer (now words))
         × (length (now records) ≡ recordSize * count) ⌝ }
     ensures { λ r. ⌜ r ≡ firstOf (map (answerOn (words .entry .now)) (recs (records .entry .now) 0 count))
         (stateAnswer (words .entry .now)) ⌝ }
@@ -140,19 +140,16 @@ fn first_refusal(words: &[u64; WORDS], state: u64, records: &[u64], count: usize
     let mut i: usize = 0;
     while i < count {
         let b = i * RECORD_SIZE;
-        let number = answer_on(
-            words,
-            state,
-            records[b + SORT],
-            records[b + ORIGIN],
-            records[b + TO],
-        );
+        let sort = records[b + SORT];
+        let id = records[b + ORIGIN];
+        let to = records[b + TO];
+        let number = answer_on(words, last, sort, id, to);
         if number != 0 {
             return number;
         }
         i += 1;
     }
-    state
+    last
 }
 
 // The verdicts, where no record is refused.
@@ -163,13 +160,11 @@ fn put_verdicts(words: &[u64; WORDS], records: &[u64], told: &mut [u64])
 {
     let mut i: usize = 0;
     while i < told.len() {
-        let b = i * RECORD_SIZE;
-        told[i] = told_on(
-            words,
-            records[b + SORT],
-            records[b + ORIGIN],
-            records[b + TO],
-        );
+        let at = i * RECORD_SIZE;
+        let sort = records[at + SORT];
+        let id = records[at + ORIGIN];
+        let to = records[at + TO];
+        told[i] = told_on(words, sort, id, to);
         i += 1;
     }
 }
@@ -188,9 +183,9 @@ pub fn verdicts(words: &[u64; WORDS], records: &[u64], told: &mut [u64]) -> u64
         return BAD_ROOM;
     }
     let state = state_number(words);
-    let number = first_refusal(words, state, records, count);
-    if number != 0 {
-        return number;
+    let refusal = first_refusal(words, state, records, count);
+    if refusal != 0 {
+        return refusal;
     }
     put_verdicts(words, records, told);
     0

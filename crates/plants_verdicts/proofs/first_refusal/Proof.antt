@@ -10,12 +10,12 @@ use Rattle.plants_verdicts.proofs.first_refusal.Statement.{statement}
 use Rattle.plants_verdicts.proofs.first_refusal.Tie as tie
 
 abbrev Inv-loop : tie.InvT-loop
-Inv-loop words state records count i₀ i =
+Inv-loop words last records count i₀ i =
     (i ≤ count)
     × (firstOf (map (answerOn words) (recs records 0 count)) (stateAnswer words) ≡ asked (answerOn words) records count (stateAnswer words) i)
 
 abbrev μ-loop : tie.MeasureT-loop
-μ-loop words state records count i₀ i = count - i
+μ-loop words last records count i₀ i = count - i
 
 -- once a record was asked
 abbrev in-loop : tie.After-answer-on Inv-loop μ-loop → tie.In-loop Inv-loop μ-loop
@@ -33,32 +33,32 @@ loop-holds c = let a = c .before .args in let z : a .count - 0 ≡ a .count = om
 mul-b : tie.Need-mul-b Inv-loop μ-loop
 mul-b c = omega arith
 
-add-answer-on : tie.Need-add-answer-on Inv-loop μ-loop
-add-answer-on c = omega arith
+add-sort : tie.Need-add-sort Inv-loop μ-loop
+add-sort c = omega arith
 
-mul-answer-on : tie.Need-mul-answer-on Inv-loop μ-loop
-mul-answer-on c = omega arith
+mul-sort : tie.Need-mul-sort Inv-loop μ-loop
+mul-sort c = omega arith
 
-shared-slice-read-answer-on : tie.Need-shared-slice-read-answer-on Inv-loop μ-loop
-shared-slice-read-answer-on c = omega arith
+shared-slice-read-sort : tie.Need-shared-slice-read-sort Inv-loop μ-loop
+shared-slice-read-sort c = omega arith
 
-add-answer-on-2 : tie.Need-add-answer-on-2 Inv-loop μ-loop
-add-answer-on-2 c = omega arith
+add-id : tie.Need-add-id Inv-loop μ-loop
+add-id c = omega arith
 
-mul-answer-on-2 : tie.Need-mul-answer-on-2 Inv-loop μ-loop
-mul-answer-on-2 c = omega arith
+mul-id : tie.Need-mul-id Inv-loop μ-loop
+mul-id c = omega arith
 
-shared-slice-read-answer-on-2 : tie.Need-shared-slice-read-answer-on-2 Inv-loop μ-loop
-shared-slice-read-answer-on-2 c = omega arith
+shared-slice-read-id : tie.Need-shared-slice-read-id Inv-loop μ-loop
+shared-slice-read-id c = omega arith
 
-add-answer-on-3 : tie.Need-add-answer-on-3 Inv-loop μ-loop
-add-answer-on-3 c = omega arith
+add-to : tie.Need-add-to Inv-loop μ-loop
+add-to c = omega arith
 
-mul-answer-on-3 : tie.Need-mul-answer-on-3 Inv-loop μ-loop
-mul-answer-on-3 c = omega arith
+mul-to : tie.Need-mul-to Inv-loop μ-loop
+mul-to c = omega arith
 
-shared-slice-read-answer-on-3 : tie.Need-shared-slice-read-answer-on-3 Inv-loop μ-loop
-shared-slice-read-answer-on-3 c = omega arith
+shared-slice-read-to : tie.Need-shared-slice-read-to Inv-loop μ-loop
+shared-slice-read-to c = omega arith
 
 answer-on-requires : tie.Need-answer-on-requires Inv-loop μ-loop
 answer-on-requires c κs =
@@ -104,15 +104,15 @@ first-refusal-spec =
     μ-loop
     loop-holds
     mul-b
-    add-answer-on
-    mul-answer-on
-    shared-slice-read-answer-on
-    add-answer-on-2
-    mul-answer-on-2
-    shared-slice-read-answer-on-2
-    add-answer-on-3
-    mul-answer-on-3
-    shared-slice-read-answer-on-3
+    add-sort
+    mul-sort
+    shared-slice-read-sort
+    add-id
+    mul-id
+    shared-slice-read-id
+    add-to
+    mul-to
+    shared-slice-read-to
     answer-on-requires
     returns
     add-i

@@ -46,35 +46,35 @@ room : (c : tie.In-loop Inv-loop μ-loop)
     → c .before .loop .i * recordSize + recordSize ≤ length (start (c .before) .args .records .now)
 room c = omega (arith, inside c, start (c .before) .pre .1)
 
-mul-b : tie.Need-mul-b Inv-loop μ-loop
-mul-b c = omega arith
+mul-at : tie.Need-mul-at Inv-loop μ-loop
+mul-at c = omega arith
 
-add-told-on : tie.Need-add-told-on Inv-loop μ-loop
-add-told-on c = omega arith
+add-sort : tie.Need-add-sort Inv-loop μ-loop
+add-sort c = omega arith
 
-mul-told-on : tie.Need-mul-told-on Inv-loop μ-loop
-mul-told-on c = omega arith
+mul-sort : tie.Need-mul-sort Inv-loop μ-loop
+mul-sort c = omega arith
 
-shared-slice-read-told-on : tie.Need-shared-slice-read-told-on Inv-loop μ-loop
-shared-slice-read-told-on c = omega (arith, room (c .before))
+shared-slice-read-sort : tie.Need-shared-slice-read-sort Inv-loop μ-loop
+shared-slice-read-sort c = omega (arith, room (c .before))
 
-add-told-on-2 : tie.Need-add-told-on-2 Inv-loop μ-loop
-add-told-on-2 c = omega arith
+add-id : tie.Need-add-id Inv-loop μ-loop
+add-id c = omega arith
 
-mul-told-on-2 : tie.Need-mul-told-on-2 Inv-loop μ-loop
-mul-told-on-2 c = omega arith
+mul-id : tie.Need-mul-id Inv-loop μ-loop
+mul-id c = omega arith
 
-shared-slice-read-told-on-2 : tie.Need-shared-slice-read-told-on-2 Inv-loop μ-loop
-shared-slice-read-told-on-2 c = omega (arith, room (c .before .before))
+shared-slice-read-id : tie.Need-shared-slice-read-id Inv-loop μ-loop
+shared-slice-read-id c = omega (arith, room (c .before .before))
 
-add-told-on-3 : tie.Need-add-told-on-3 Inv-loop μ-loop
-add-told-on-3 c = omega arith
+add-to : tie.Need-add-to Inv-loop μ-loop
+add-to c = omega arith
 
-mul-told-on-3 : tie.Need-mul-told-on-3 Inv-loop μ-loop
-mul-told-on-3 c = omega arith
+mul-to : tie.Need-mul-to Inv-loop μ-loop
+mul-to c = omega arith
 
-shared-slice-read-told-on-3 : tie.Need-shared-slice-read-told-on-3 Inv-loop μ-loop
-shared-slice-read-told-on-3 c = omega (arith, room (c .before .before .before))
+shared-slice-read-to : tie.Need-shared-slice-read-to Inv-loop μ-loop
+shared-slice-read-to c = omega (arith, room (c .before .before .before))
 
 told-on-requires : tie.Need-told-on-requires Inv-loop μ-loop
 told-on-requires c κs =
@@ -125,16 +125,16 @@ put-verdicts-spec =
     Inv-loop
     μ-loop
     loop-holds
-    mul-b
-    add-told-on
-    mul-told-on
-    shared-slice-read-told-on
-    add-told-on-2
-    mul-told-on-2
-    shared-slice-read-told-on-2
-    add-told-on-3
-    mul-told-on-3
-    shared-slice-read-told-on-3
+    mul-at
+    add-sort
+    mul-sort
+    shared-slice-read-sort
+    add-id
+    mul-id
+    shared-slice-read-id
+    add-to
+    mul-to
+    shared-slice-read-to
     told-on-requires
     mul-told
     slice-write-told
