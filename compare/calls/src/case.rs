@@ -4,7 +4,8 @@
 use bellmantle::raw;
 use std::borrow::Cow;
 use Row::{
-    Core, Events, Head, Journal, Out, Plants, Records, Told1, Told3, Told4, Told6, Tracker, Verdicts,
+    Core, Events, Head, Journal, Out, Plants, Records, Told1, Told3, Told4, Told6, Tracker,
+    Verdicts,
 };
 
 /// The rows that calls are lent. A call is lent the front of a row, or all of it where its length is fixed.

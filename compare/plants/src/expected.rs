@@ -101,12 +101,7 @@ fn judged(before: &Words, client: bool, id: u64, to: u64) -> Answer {
 }
 
 /// The verdicts on records, each as the Rust has it for the single message; `odd` is a word of the state that stands otherwise.
-pub fn verdicts(
-    before: Words,
-    records: Vec<u64>,
-    room: usize,
-    odd: Option<(usize, u64)>,
-) -> Case {
+pub fn verdicts(before: Words, records: Vec<u64>, room: usize, odd: Option<(usize, u64)>) -> Case {
     let answer = all_judged(&before, &records, room, odd.is_some());
     Case {
         after: before.clone(),

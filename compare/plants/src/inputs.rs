@@ -144,7 +144,9 @@ pub fn verdicts(draws: &mut Draws) -> Case {
         1 => 1,
         _ => draws.between(2, MOST_RECORDS),
     };
-    let mut records: Vec<u64> = (0..count).flat_map(|_| any_record(before.n, draws)).collect();
+    let mut records: Vec<u64> = (0..count)
+        .flat_map(|_| any_record(before.n, draws))
+        .collect();
     let mut room = count;
     if draws.once_in(20) {
         match draws.below(3) {
@@ -153,7 +155,9 @@ pub fn verdicts(draws: &mut Draws) -> Case {
             _ => room = room.saturating_sub(1),
         }
     }
-    let odd = draws.once_in(25).then(|| (draws.between(1, 30), not_below(draws, 2)));
+    let odd = draws
+        .once_in(25)
+        .then(|| (draws.between(1, 30), not_below(draws, 2)));
     expected::verdicts(before, records, room, odd)
 }
 

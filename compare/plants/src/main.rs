@@ -114,7 +114,12 @@ fn sample(sample: &mut Sample, seed: u64) {
         sample.add(&inputs::boundary(&mut draws).1.call());
     }
     while !sample.is_complete(&WANTED) {
-        for make in [inputs::apply, inputs::verdict, inputs::core, inputs::verdicts] {
+        for make in [
+            inputs::apply,
+            inputs::verdict,
+            inputs::core,
+            inputs::verdicts,
+        ] {
             sample.add_missing(&WANTED, &[make(&mut draws).call()]);
         }
     }

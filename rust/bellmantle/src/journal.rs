@@ -87,9 +87,9 @@ impl<M: Clone> JournaledNetwork<M> {
 
     /// A take, journaled.
     pub fn take_due(&mut self, now: u64) -> Result<Vec<Envelope<M>>, Refusal> {
-        self.taken =
-            self.words
-                .take_due_journaled(now, &mut self.out[..], &mut self.journal)?;
+        self.taken = self
+            .words
+            .take_due_journaled(now, &mut self.out[..], &mut self.journal)?;
         Ok(self
             .taken()
             .chunks_exact(RECORD_WORDS)
