@@ -21,6 +21,8 @@ pub struct Network {
     /// The Rust's own network, for its sampling of a delay alone.
     sampler: extended::Network,
     pub summary: MessageSummary,
+    /// Room for the verdicts on a take.
+    pub(super) told: Vec<u64>,
 }
 
 /// Draws and extras for one send, as many as it may use at most.
@@ -39,6 +41,7 @@ impl Network {
             sampler: extended::Network::new(sampled(&options)),
             options,
             summary: MessageSummary::default(),
+            told: Vec::new(),
         }
     }
 

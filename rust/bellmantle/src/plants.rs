@@ -1,7 +1,7 @@
 //! Which plants are up and which are cut off, and the choice of the core.
 
 use crate::raw::plants::{CRASHES, N, PARTITIONED, REBOOTS, RESTARTS, STABLE, UP};
-use crate::raw::{self, core, CORE_WORDS, PLANTS_WORDS, RECORD_WORDS};
+use crate::raw::{self, core, CORE_WORDS, MOST_PLANTS, PLANTS_WORDS, RECORD_WORDS};
 use crate::{Fault, Origin, Refusal};
 
 /// The state of 3 to 15 plants.
@@ -10,9 +10,8 @@ pub struct Plants {
     words: [u64; PLANTS_WORDS],
 }
 
-/// What becomes of a message that is due. It is as wide as the word that tells it, so that told words become verdicts in place.
+/// What becomes of a message that is due.
 #[derive(Clone, Copy, Debug, PartialEq, Eq)]
-#[repr(u64)]
 pub enum Verdict {
     /// It reaches its plant.
     Deliver,
@@ -110,9 +109,19 @@ impl Plants {
     /// assert_eq!(due.len(), verdicts.len());
     /// ```
     pub fn verdicts(&self, taken: &[u64]) -> Result<Vec<Verdict>, Refusal> {
-        let mut told = vec![0; taken.len() / RECORD_WORDS];
-        Refusal::check(raw::plants_verdicts(&self.words, taken, &mut told))?;
-        Ok(told.into_iter().map(Verdict::told).collect())
+        Ok(self.verdicts_in(taken, &mut Vec::new())?.collect())
+    }
+
+    /// The same, told in words that the caller keeps from take to take.
+    pub fn verdicts_in<'a>(
+        &self,
+        taken: &[u64],
+        told: &'a mut Vec<u64>,
+    ) -> Result<impl ExactSizeIterator<Item = Verdict> + 'a, Refusal> {
+        told.clear();
+        told.resize(taken.len() / RECORD_WORDS, 0);
+        Refusal::check(raw::plants_verdicts(&self.words, taken, told))?;
+        Ok(told.iter().map(|&number| Verdict::told(number)))
     }
 
     /// Chooses the core by the lent picks: 40, 42, 45, 48, 46, 47, 43.
@@ -122,11 +131,16 @@ impl Plants {
         picks: &[u64],
         full: bool,
     ) -> Result<Core, Refusal> {
-        let flags: Vec<u64> = recovering.iter().map(|&flag| u64::from(flag)).collect();
+        // More flags than there can be plants are as many too many with one of them.
+        let mut flags = [0; MOST_PLANTS + 1];
+        for (word, &flag) in flags.iter_mut().zip(recovering) {
+            *word = u64::from(flag);
+        }
+        let flags = &flags[..recovering.len().min(MOST_PLANTS + 1)];
         let mut told = [0; CORE_WORDS];
         Refusal::check(raw::plants_choose_core(
             &mut self.words,
-            &flags,
+            flags,
             picks,
             u64::from(full),
             &mut told,
