@@ -219,6 +219,12 @@ uint64_t bellmantle_plants_apply(uint64_t words[49], uint64_t tick, uint64_t fau
  * down, 2 the receiver or a sending replica is partitioned. */
 uint64_t bellmantle_plants_verdict(const uint64_t words[49], uint64_t sort, uint64_t id, uint64_t to, uint64_t told[1]);
 
+/* What becomes of the messages of a take, BELLMANTLE_RECORD_WORDS words each as it gives them: 30 if there is not one for each word of
+ * `told`; then, record by record, what the call above answers, and the first refusal is the answer; then 40, 42 of the state, where
+ * there is no record. Told: for each the number that the call above tells. */
+uint64_t bellmantle_plants_verdicts(const uint64_t words[49], const uint64_t *records, size_t records_len, uint64_t *told,
+                                    size_t told_len);
+
 /* Chooses the core: 40, 42, 45, 48, 46, 47, 43. `recovering` has a flag for each plant; `full` asks for all plants, no for 0 and yes
  * otherwise. Told: the core's size, how many picks were used, and its ids, rising, with zeros behind them. */
 enum { BELLMANTLE_CORE_SIZE = 0, BELLMANTLE_CORE_PICKS = 1, BELLMANTLE_CORE_IDS = 2, BELLMANTLE_CORE_WORDS = 17 };

@@ -3,7 +3,10 @@
 
 use bellmantle::raw;
 use std::borrow::Cow;
-use Row::{Core, Events, Head, Journal, Out, Plants, Records, Told1, Told3, Told4, Told6, Tracker};
+use Row::{
+    Core, Events, Head, Journal, Out, Plants, Records, Told1, Told3, Told4, Told6, Tracker,
+    Verdicts,
+};
 
 /// The rows that calls are lent. A call is lent the front of a row, or all of it where its length is fixed.
 #[derive(Clone, Copy, Debug, PartialEq, Eq, PartialOrd, Ord)]
@@ -32,10 +35,11 @@ pub enum Row {
     Ids,
     Tracker,
     Told6,
+    Verdicts,
 }
 
 /// Every row, by its number in a list of calls, with its words.
-pub const ROWS: [(Row, usize); 22] = [
+pub const ROWS: [(Row, usize); 23] = [
     (Row::Text, 65_600),
     (Row::Events, 6_200),
     (Row::Head, raw::HEAD_WORDS),
@@ -58,6 +62,7 @@ pub const ROWS: [(Row, usize); 22] = [
     (Row::Ids, 20),
     (Row::Tracker, 2_460),
     (Row::Told6, raw::FATE_WORDS),
+    (Row::Verdicts, 20),
 ];
 
 impl Row {
@@ -66,7 +71,8 @@ impl Row {
     }
 }
 
-/// The calls, by their numbers in a list of calls: the header's order, and behind them the fate, which was added later.
+/// The calls, by their numbers in a list of calls: the header's order, and behind them the fate and the verdicts on a
+/// take, which were added later.
 #[derive(Clone, Copy, Debug, PartialEq, Eq, PartialOrd, Ord)]
 pub enum Call {
     ParseScript,
@@ -91,6 +97,7 @@ pub enum Call {
     PropertiesTick,
     PropertiesEnd,
     Fate,
+    PlantsVerdicts,
 }
 
 /// A call's name, the names of its numbers, and the rows that it may write.
@@ -114,7 +121,7 @@ const fn shape(
 
 const OPTIONS: &[&str] = &["loss", "replay", "min", "mean", "flag"];
 
-const SHAPES: [Shape; 22] = [
+const SHAPES: [Shape; 23] = [
     shape("parse_script", &["text_len", "events_len"], &[Events]),
     shape("network_new", OPTIONS, &[Head, Records]),
     shape("network_set_options", OPTIONS, &[Head]),
@@ -221,6 +228,8 @@ const SHAPES: [Shape; 22] = [
         ],
         &[Told6],
     ),
+    // The records stand in the row that a take writes them to.
+    shape("plants_verdicts", &["records_len", "told_len"], &[Verdicts]),
 ];
 
 impl Call {

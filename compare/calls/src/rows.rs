@@ -28,6 +28,7 @@ pub struct Rows {
     ids: Vec<u64>,
     tracker: Vec<u64>,
     told6: [u64; FATE_WORDS],
+    verdicts: Vec<u64>,
 }
 
 impl Rows {
@@ -57,6 +58,7 @@ impl Rows {
             ids: row(Row::Ids),
             tracker: row(Row::Tracker),
             told6: [0; FATE_WORDS],
+            verdicts: row(Row::Verdicts),
         }
     }
 
@@ -84,6 +86,7 @@ impl Rows {
             Row::Ids => &self.ids,
             Row::Tracker => &self.tracker,
             Row::Told6 => &self.told6,
+            Row::Verdicts => &self.verdicts,
         }
     }
 
@@ -111,6 +114,7 @@ impl Rows {
             Row::Ids => &mut self.ids,
             Row::Tracker => &mut self.tracker,
             Row::Told6 => &mut self.told6,
+            Row::Verdicts => &mut self.verdicts,
         }
     }
 
@@ -144,6 +148,7 @@ impl Rows {
             ids,
             tracker,
             told6,
+            verdicts,
         } = self;
         let n = |place: usize| case.numbers[place];
         let len = |place: usize| case.numbers[place] as usize;
@@ -251,6 +256,9 @@ impl Rows {
                 &extras[..len(8)],
                 told6,
             ),
+            Call::PlantsVerdicts => {
+                raw::plants_verdicts(plants, &out[..len(0)], &mut verdicts[..len(1)])
+            }
         }
     }
 }

@@ -21,6 +21,8 @@ pub struct Network {
     /// The Rust's own network, for its sampling of a delay alone.
     sampler: extended::Network,
     pub summary: MessageSummary,
+    /// Room for the verdicts on a take.
+    pub(super) told: Vec<u64>,
 }
 
 /// Draws and extras for one send, as many as it may use at most.
@@ -39,6 +41,7 @@ impl Network {
             sampler: extended::Network::new(sampled(&options)),
             options,
             summary: MessageSummary::default(),
+            told: Vec::new(),
         }
     }
 
@@ -89,6 +92,11 @@ impl Network {
         let due = self.network.take_due(now).unwrap_or_else(|r| refused(r));
         self.count();
         due.into_iter().map(envelope).collect()
+    }
+
+    /// The records of the last take.
+    pub(super) fn taken(&self) -> &[u64] {
+        self.network.taken()
     }
 
     /// Draws from a copy of the generator: how many words of it a message uses only the answer tells. A probability of 1
@@ -180,7 +188,7 @@ fn sampled(options: &NetworkOptions) -> extended::NetworkOptions {
     }
 }
 
-pub(super) fn origin(from: Origin) -> bellmantle::Origin {
+fn origin(from: Origin) -> bellmantle::Origin {
     match from {
         Origin::Replica(id) => bellmantle::Origin::Replica(id as u64),
         Origin::Client(id) => bellmantle::Origin::Client(id as u64),

@@ -2,7 +2,6 @@
 //! simulator keeps its fields, as the rest of it reads and writes them: they are the library's words before a call and
 //! after it.
 
-use super::network::origin;
 use super::{Envelope, Fault, NetworkOptions, Simulator};
 use crate::limits::refused;
 use bellmantle::{Plants, Verdict};
@@ -14,6 +13,10 @@ const UP: usize = 1;
 const PARTITIONED: usize = 16;
 const STABLE: usize = 31;
 const COUNTS: usize = 46;
+
+/// The most plants, and the most picks that a choice uses.
+const MOST_PLANTS: usize = 15;
+const MOST_PICKS: usize = 2 * MOST_PLANTS;
 
 pub(super) fn apply(simulator: &mut Simulator, fault: Fault) {
     debug!("tick {}: inject {fault}", simulator.ticks);
@@ -33,15 +36,16 @@ pub(super) fn apply(simulator: &mut Simulator, fault: Fault) {
 pub(super) fn transition_to_liveness_mode(simulator: &mut Simulator) {
     simulator.liveness_mode = true;
     simulator.network.set_options(NetworkOptions::perfect());
-    let picks = picks(simulator);
-    let recovering: Vec<bool> = simulator
-        .replicas
-        .iter()
-        .map(|replica| replica.is_recovering())
-        .collect();
+    let mut room = [0; MOST_PICKS];
+    let picks = picks(simulator, &mut room);
+    let mut flags = [false; MOST_PLANTS];
+    let recovering = &mut flags[..simulator.replicas.len()];
+    for (flag, replica) in recovering.iter_mut().zip(&simulator.replicas) {
+        *flag = replica.is_recovering();
+    }
     let mut plants = read(simulator);
     let core = plants
-        .choose_core(&recovering, &picks, simulator.options.full_core)
+        .choose_core(recovering, picks, simulator.options.full_core)
         .unwrap_or_else(|r| refused(r));
     write(simulator, &plants);
     debug!(
@@ -53,38 +57,43 @@ pub(super) fn transition_to_liveness_mode(simulator: &mut Simulator) {
 
 /// The core's size, a shuffle of all plants and one of those that are not among the first quorum: every choice uses all
 /// of these picks.
-fn picks(simulator: &mut Simulator) -> Vec<u64> {
+fn picks<'a>(simulator: &mut Simulator, room: &'a mut [u64; MOST_PICKS]) -> &'a [u64] {
     let n = simulator.options.replica_count;
     let quorum = n / 2 + 1;
-    let mut picks = Vec::new();
+    let mut count = 0;
+    let mut pick = |pick: usize| {
+        room[count] = pick as u64;
+        count += 1;
+    };
     if !simulator.options.full_core {
-        picks.push(simulator.prng.gen_range(quorum..=n) as u64);
+        pick(simulator.prng.gen_range(quorum..=n));
     }
     for i in (1..n).rev().chain((1..n - quorum).rev()) {
-        picks.push(simulator.prng.gen_range(0..=i) as u64);
+        pick(simulator.prng.gen_range(0..=i));
     }
-    picks
+    &room[..count]
 }
 
 pub(super) fn tick_network(simulator: &mut Simulator) {
     simulator.flush();
     let due = simulator.network.take_due(simulator.ticks);
     if !due.is_empty() {
+        // A delivery changes no plant's state, so that all verdicts are asked for before the first of them.
+        let mut told = std::mem::take(&mut simulator.network.told);
         let plants = read(simulator);
-        for envelope in due {
-            deliver(simulator, &plants, envelope);
+        let verdicts = plants.verdicts_in(simulator.network.taken(), &mut told);
+        for (envelope, verdict) in due.into_iter().zip(verdicts.unwrap_or_else(|r| refused(r))) {
+            deliver(simulator, verdict, envelope);
         }
+        simulator.network.told = told;
     }
     simulator.flush();
 }
 
-fn deliver(simulator: &mut Simulator, plants: &Plants, envelope: Envelope) {
-    let Envelope {
-        from, to, message, ..
-    } = envelope;
+fn deliver(simulator: &mut Simulator, verdict: Verdict, envelope: Envelope) {
+    let Envelope { to, message, .. } = envelope;
     let ticks = simulator.ticks;
-    let verdict = plants.verdict(origin(from), to as u64);
-    match verdict.unwrap_or_else(|r| refused(r)) {
+    match verdict {
         Verdict::ReceiverDown => debug!("tick {ticks}: drop {message:?} to crashed {to}"),
         Verdict::CutOff => debug!("tick {ticks}: drop {message:?} to {to}: partitioned"),
         Verdict::Deliver => {
@@ -111,10 +120,15 @@ fn read(simulator: &Simulator) -> Plants {
 }
 
 fn write(simulator: &mut Simulator, plants: &Plants) {
+    let words = plants.words();
+    for (up, &word) in simulator.replica_up.iter_mut().zip(&words[UP..]) {
+        *up = word == 1;
+    }
+    let ticks = simulator.replica_stable_until.iter_mut();
+    ticks.zip(&words[STABLE..]).for_each(|(until, &word)| *until = word);
+    simulator.partitioned.clear();
     let ids = 0..plants.count();
-    simulator.replica_up = ids.clone().map(|id| plants.is_up(id)).collect();
-    simulator.replica_stable_until = ids.clone().map(|id| plants.stable_until(id)).collect();
-    simulator.partitioned = ids.filter(|&id| plants.is_partitioned(id)).collect();
+    simulator.partitioned.extend(ids.filter(|&id| words[PARTITIONED + id] == 1));
     let (crashes, restarts, reboots) = plants.counts();
     simulator.crashes = crashes as usize;
     simulator.restarts = restarts as usize;

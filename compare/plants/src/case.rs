@@ -2,6 +2,7 @@
 
 use calls::case::{self, Row};
 use calls::nets::PATTERN;
+use calls::raw::{record, RECORD_WORDS};
 
 /// The most plants, for which every state has room.
 pub const MOST: usize = 15;
@@ -30,6 +31,11 @@ pub enum Call {
         id: u64,
         to: u64,
     },
+    /// The words of records, and how many words there are for verdicts.
+    Verdicts {
+        records: Vec<u64>,
+        room: usize,
+    },
     Core {
         full: u64,
         flags: Vec<u64>,
@@ -42,6 +48,7 @@ pub enum Answer {
     Done,
     Nonce(u64),
     Verdict(u64),
+    Verdicts(Vec<u64>),
     Core { ids: Vec<u64>, used: u64 },
     Refused(u64),
 }
@@ -76,12 +83,22 @@ const VERDICTS: [[&str; 2]; 3] = [
     ["cut off, from a plant", "cut off, from a client"],
 ];
 
+/// What is counted of verdicts in one call, by how many they are.
+const SEVERAL: [&str; 3] = ["verdicts on none", "verdicts on one", "verdicts on several"];
+
+/// The refusals of verdicts in one call, which are counted by themselves; and those that a record behind the first has.
+pub const VERDICTS_REFUSED: [u64; 5] = [24, 30, 40, 41, 42];
+const BEHIND: [u64; 2] = [24, 41];
+
 /// Every outcome but the refusals.
 pub fn outcomes() -> Vec<String> {
     let mut names = vec!["new".to_string()];
     for name in FAULTS.iter().chain(&VERDICTS).flatten() {
         names.push(name.to_string());
     }
+    names.extend(SEVERAL.map(String::from));
+    names.extend(VERDICTS_REFUSED.map(|number| format!("verdicts refused by {number}")));
+    names.extend(BEHIND.map(|number| format!("verdicts refused by {number}, not at the first")));
     names.push("picked core".to_string());
     names.push("full core".to_string());
     names.extend((2..=MOST).map(|size| format!("core of {size}")));
@@ -121,7 +138,7 @@ impl Case {
         };
         let make = |call: case::Call, numbers: &[u64]| {
             let mut case = case::Case::new(call, numbers, refusal);
-            for row in [Row::Told1, Row::Core] {
+            for row in [Row::Told1, Row::Core, Row::Verdicts] {
                 if call.writes().contains(&row) {
                     case = case.filled(row, PATTERN);
                 }
@@ -142,6 +159,11 @@ impl Case {
             }
             Call::Verdict { sort, id, to } => {
                 self.lent(make(case::Call::PlantsVerdict, &[*sort, *id, *to]))
+            }
+            Call::Verdicts { records, room } => {
+                let numbers = [records.len() as u64, *room as u64];
+                let made = self.lent(make(case::Call::PlantsVerdicts, &numbers));
+                made.put(Row::Out, 0, records)
             }
             Call::Core { full, flags, picks } => {
                 let numbers = [flags.len() as u64, picks.len() as u64, *full];
@@ -168,6 +190,7 @@ impl Case {
             Answer::Refused(_) => return made,
             Answer::Done => made,
             Answer::Nonce(word) | Answer::Verdict(word) => made.expects(Row::Told1, 0, &[*word]),
+            Answer::Verdicts(words) => made.expects(Row::Verdicts, 0, words),
             Answer::Core { ids, used } => {
                 let mut told = vec![ids.len() as u64, *used];
                 told.extend(ids);
@@ -176,7 +199,7 @@ impl Case {
             }
         };
         match self.call {
-            Call::Verdict { .. } => made,
+            Call::Verdict { .. } | Call::Verdicts { .. } => made,
             _ => made.expects(Row::Plants, 0, &self.after.words()),
         }
     }
@@ -185,6 +208,17 @@ impl Case {
     fn counted(&self, made: case::Case) -> case::Case {
         let (before, after) = (&self.before, &self.after);
         match (&self.call, &self.answer) {
+            (Call::Verdicts { records, .. }, Answer::Refused(number)) => {
+                let made = made.meets(format!("verdicts refused by {number}"));
+                // The first record's receiver and sort are good.
+                if BEHIND.contains(number) && is_passed(before, &records[..RECORD_WORDS]) {
+                    return made.meets(format!("verdicts refused by {number}, not at the first"));
+                }
+                made
+            }
+            (Call::Verdicts { .. }, Answer::Verdicts(words)) => {
+                made.meets(SEVERAL[words.len().min(2)])
+            }
             (_, Answer::Refused(number)) => made.meets(format!("refusal {number}")),
             (Call::New, _) => made.meets("new"),
             (Call::Apply { fault, .. }, _) => {
@@ -204,5 +238,15 @@ impl Case {
             }
             _ => unreachable!("an answer is of its call"),
         }
+    }
+}
+
+/// Whether a record names plants alone, and a sort that there is.
+fn is_passed(state: &Words, words: &[u64]) -> bool {
+    let is_plant = |place: usize| words[place] < state.n;
+    match words[record::SORT] {
+        0 => is_plant(record::TO) && is_plant(record::ORIGIN),
+        1 => is_plant(record::TO),
+        _ => false,
     }
 }

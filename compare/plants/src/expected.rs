@@ -3,6 +3,7 @@
 //! What the Rust does instead stands at each.
 
 use crate::case::{Answer, Call, Case, Words, MOST};
+use calls::raw::{record, RECORD_WORDS};
 use oracle::plants::{self, State};
 use oracle::simulator::{Fault, Origin};
 
@@ -97,6 +98,45 @@ fn judged(before: &Words, client: bool, id: u64, to: u64) -> Answer {
         Origin::Replica(id as usize)
     };
     Answer::Verdict(plants::verdict(&state(before), from, to as usize))
+}
+
+/// The verdicts on records, each as the Rust has it for the single message; `odd` is a word of the state that stands otherwise.
+pub fn verdicts(before: Words, records: Vec<u64>, room: usize, odd: Option<(usize, u64)>) -> Case {
+    let answer = all_judged(&before, &records, room, odd.is_some());
+    Case {
+        after: before.clone(),
+        before,
+        call: Call::Verdicts { records, room },
+        answer,
+        odd,
+    }
+}
+
+fn all_judged(before: &Words, records: &[u64], room: usize, odd: bool) -> Answer {
+    // 30: the Rust takes messages into a list that grows.
+    if records.len() != room * RECORD_WORDS {
+        return Answer::Refused(30);
+    }
+    let state = ill_formed(before).or(odd.then_some(42));
+    let mut told = Vec::new();
+    for words in records.chunks_exact(RECORD_WORDS) {
+        // 24: the Rust has no other origins.
+        if words[record::SORT] > 1 {
+            return Answer::Refused(24);
+        }
+        if let Some(number) = state {
+            return Answer::Refused(number);
+        }
+        let is_client = words[record::SORT] == 1;
+        match judged(before, is_client, words[record::ORIGIN], words[record::TO]) {
+            Answer::Verdict(number) => told.push(number),
+            refused => return refused,
+        }
+    }
+    match state {
+        Some(number) => Answer::Refused(number),
+        None => Answer::Verdicts(told),
+    }
 }
 
 /// A choice that the Rust has an answer to, but where a count passes its limit. The picks are those that it

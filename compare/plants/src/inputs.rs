@@ -3,6 +3,7 @@
 use crate::case::{Call, Case, Words, MOST};
 use crate::expected::{self, LENT_WORDS, LIMIT};
 use calls::draws::Draws;
+use calls::raw::{record, RECORD_WORDS};
 
 /// A state of 3 to 15 plants. Once in twenty a count stands at its limit.
 fn state(draws: &mut Draws) -> Words {
@@ -131,6 +132,53 @@ pub fn verdict(draws: &mut Draws) -> Case {
         id(draws, before.n)
     };
     expected::verdict(before, client, from, to)
+}
+
+/// The verdicts on up to so many records; the words that a verdict does not look at are any.
+const MOST_RECORDS: usize = 12;
+
+pub fn verdicts(draws: &mut Draws) -> Case {
+    let before = any_state(draws);
+    let count = match draws.below(6) {
+        0 => 0,
+        1 => 1,
+        _ => draws.between(2, MOST_RECORDS),
+    };
+    let mut records: Vec<u64> = (0..count)
+        .flat_map(|_| any_record(before.n, draws))
+        .collect();
+    let mut room = count;
+    if draws.once_in(20) {
+        match draws.below(3) {
+            0 => room += 1,
+            1 => records.push(any_number(draws)),
+            _ => room = room.saturating_sub(1),
+        }
+    }
+    let odd = draws
+        .once_in(25)
+        .then(|| (draws.between(1, 30), not_below(draws, 2)));
+    expected::verdicts(before, records, room, odd)
+}
+
+/// A record with an id or a sort that is none, once in sixty each.
+fn any_record(n: u64, draws: &mut Draws) -> [u64; RECORD_WORDS] {
+    let mut words = [0; RECORD_WORDS];
+    words.fill_with(|| any_number(draws));
+    let named = |draws: &mut Draws| match draws.once_in(60) || n == 0 {
+        true => not_below(draws, n),
+        false => draws.below(n.min(20) as usize) as u64,
+    };
+    words[record::TO] = named(draws);
+    words[record::SORT] = draws.below(2) as u64;
+    // A client's id is not tested.
+    if words[record::SORT] == 0 {
+        words[record::ORIGIN] = named(draws);
+    }
+    if draws.once_in(60) {
+        words[record::SORT] = not_below(draws, 2);
+    }
+    words
 }
 
 pub fn core(draws: &mut Draws) -> Case {

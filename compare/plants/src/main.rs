@@ -1,7 +1,7 @@
 //! Compares the proved plants and the choice of a core with the Rust's.
 //!
 //! `plants [--seed N] [--count N] [--plant NAME] [--sample FILE]`: the seed, how many cases there are of each of apply, verdict and
-//! core, a fault to plant in our side, and a file to which the sample is written instead of comparing. Ends with status 0 if there
+//! core (of verdicts a quarter), a fault to plant in our side, and a file to which the sample is written instead of comparing. Ends with status 0 if there
 //! is no difference and every outcome was met.
 
 mod case;
@@ -14,7 +14,7 @@ use calls::case::Call;
 use calls::draws::Draws;
 use calls::sample::Sample;
 use calls::tally::outcomes;
-use case::{Answer, Case};
+use case::{Answer, Case, VERDICTS_REFUSED};
 use std::collections::BTreeMap;
 use std::process::ExitCode;
 
@@ -22,21 +22,23 @@ use std::process::ExitCode;
 const COUNT: u64 = 240_000;
 
 /// How many cases of each sort the sample has.
-const SAMPLE: [(Maker, usize); 5] = [
+const SAMPLE: [(Maker, usize); 6] = [
     (inputs::new, 20),
     (inputs::apply, 150),
     (inputs::verdict, 120),
     (inputs::core, 100),
     (inputs::refused_core, 20),
+    (inputs::verdicts, 40),
 ];
 const SAMPLE_BOUNDARY: usize = 60;
 
 /// The refusals that the sample has of each call.
-const WANTED: [(Call, &[u64]); 4] = [
+const WANTED: [(Call, &[u64]); 5] = [
     (Call::PlantsNew, &[40]),
     (Call::PlantsApply, &[5, 40, 41, 42, 43, 44]),
     (Call::PlantsVerdict, &[24, 40, 41, 42]),
     (Call::PlantsChooseCore, &[40, 42, 43, 45, 46, 47, 48]),
+    (Call::PlantsVerdicts, &VERDICTS_REFUSED),
 ];
 
 const SAMPLE_SEED: u64 = 2_026;
@@ -93,6 +95,10 @@ fn compare(compared: &mut Compared, seed: u64, count: u64) -> Agrees {
         case.met = vec![name.into()];
         compared.case(&case)?;
     }
+    let mut draws = Draws::new(seed.rotate_left(32));
+    for _ in 0..count / 4 {
+        compared.case(&inputs::verdicts(&mut draws).call())?;
+    }
     Ok(())
 }
 
@@ -108,12 +114,23 @@ fn sample(sample: &mut Sample, seed: u64) {
         sample.add(&inputs::boundary(&mut draws).1.call());
     }
     while !sample.is_complete(&WANTED) {
-        for make in [inputs::apply, inputs::verdict, inputs::core] {
+        for make in [
+            inputs::apply,
+            inputs::verdict,
+            inputs::core,
+            inputs::verdicts,
+        ] {
             sample.add_missing(&WANTED, &[make(&mut draws).call()]);
         }
     }
     let calls = WANTED.map(|(call, _)| call);
-    let makers: [Maker; 4] = [inputs::new, inputs::apply, inputs::verdict, inputs::core];
+    let makers: [Maker; 5] = [
+        inputs::new,
+        inputs::apply,
+        inputs::verdict,
+        inputs::core,
+        inputs::verdicts,
+    ];
     sample.add_wrong(&calls, || {
         let cases = makers.iter().map(|make| make(&mut draws).call());
         cases.collect()

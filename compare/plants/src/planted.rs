@@ -5,12 +5,14 @@ use calls::raw::{core, plants};
 use calls::rows::Rows;
 use calls::run::Plant;
 
-pub const ALL: [(&str, Plant); 5] = [
+pub const ALL: [(&str, Plant); 7] = [
     ("nonce", nonce),
     ("count", count),
     ("order", order),
     ("verdict", verdict),
     ("number", number),
+    ("last", last),
+    ("written", written),
 ];
 
 /// A fault that is no reboot clears the nonce's word.
@@ -50,5 +52,23 @@ fn verdict(case: &Case, answer: &mut u64, rows: &mut Rows) {
 fn number(case: &Case, answer: &mut u64, _: &mut Rows) {
     if case.call == Call::PlantsChooseCore && *answer == 46 {
         *answer = 47;
+    }
+}
+
+/// Of verdicts in one call the last is told as that on the first.
+fn last(case: &Case, answer: &mut u64, rows: &mut Rows) {
+    if case.call != Call::PlantsVerdicts || *answer != 0 {
+        return;
+    }
+    if let Some(last) = (case.numbers[1] as usize).checked_sub(1) {
+        let row = rows.row_mut(Row::Verdicts);
+        row[last] = row[0];
+    }
+}
+
+/// Verdicts that are refused at a plant write a word.
+fn written(case: &Case, answer: &mut u64, rows: &mut Rows) {
+    if case.call == Call::PlantsVerdicts && *answer == 41 {
+        rows.row_mut(Row::Verdicts)[0] = 0;
     }
 }

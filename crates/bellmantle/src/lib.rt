@@ -20,6 +20,7 @@ ghost use Rattle.network_batch.specs.Ticks.{ticked};
 ghost use Rattle.journal_calls.specs.Calls.{sends, takes, chooses, markAnswer, markWords};
 ghost use Rattle.journal_words.specs.Calls.{journalAnswer, journalHead, journalRecords, journalWords};
 ghost use Rattle.plants_words.specs.Calls.{newAnswer, newWords, applyAnswer, applyWords, nonceWords, verdictAnswer, verdictWords, coreAnswer, coreWords, coreAnswered};
+ghost use Rattle.plants_verdicts.specs.Calls.{verdictsAnswer, verdictsWords};
 ghost use Rattle.properties_tracker.specs.Calls.{freshAnswer, freshWords, rebootAnswer, rebootWords};
 ghost use Rattle.properties_tick.specs.Calls.{tickAnswer, tickWords};
 ghost use Rattle.properties_end.specs.Calls.{endAnswer};
@@ -372,6 +373,19 @@ pub extern "C" fn bellmantle_plants_verdict(
     ensures told { λ _. ⌜ now (told .exit) ≡ verdictWords (now (words .entry)) sort id to (now (told .entry)) ⌝ }
 {
     plants_words::verdict(words, sort, id, to, told)
+}
+
+// What becomes of the messages of a take, eight words each: a verdict is told for each.
+#[no_mangle]
+pub extern "C" fn bellmantle_plants_verdicts(
+    words: &[u64; plants_layout::WORDS],
+    records: &[u64],
+    told: &mut [u64],
+) -> u64
+    ensures answer { λ r. ⌜ r ≡ verdictsAnswer (now (words .entry)) (now (records .entry)) (now (told .entry)) ⌝ }
+    ensures told { λ _. ⌜ now (told .exit) ≡ verdictsWords (now (words .entry)) (now (records .entry)) (now (told .entry)) ⌝ }
+{
+    plants_verdicts::verdicts(words, records, told)
 }
 
 // Chooses the core of plants that stays up; `full` is no for 0 and yes otherwise.

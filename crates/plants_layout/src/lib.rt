@@ -14,17 +14,17 @@ ghost use Rattle.basis.specs.Basis.{most};
 ghost use Rattle.plants_layout.specs.Layout.{stableAt, crashesAt, stateSize, flagsIn, flagWordsFit, ticksIn, plantsIn, stateWords, bits, shaped, faultIn, originIn};
 
 // Where the parts of a state begin, and how many words it has.
-const UP: usize = 1;
+pub const UP: usize = 1;
 
-const PARTITIONED: usize = UP + MOST;
+pub const PARTITIONED: usize = UP + MOST;
 
 const STABLE: usize = PARTITIONED + MOST;
 
-const CRASHES: usize = STABLE + MOST;
+pub const CRASHES: usize = STABLE + MOST;
 
-const RESTARTS: usize = CRASHES + 1;
+pub const RESTARTS: usize = CRASHES + 1;
 
-const REBOOTS: usize = RESTARTS + 1;
+pub const REBOOTS: usize = RESTARTS + 1;
 
 pub const WORDS: usize = REBOOTS + 1;
 

@@ -64,7 +64,7 @@ fn say_name(names: &[u8], which: usize) {
 
 fn say_call(which: usize) {
     say_name(
-        b"parse_script=network_new=network_set_options=network_send=network_take_due=network_pending=network_in_flight=network_tick=journal_mark=journal_send=journal_take_due=journal_set_options=journal_rewind=plants_new=plants_apply=plants_verdict=plants_choose_core=properties_fresh=properties_reboot=properties_tick=properties_end=fate=",
+        b"parse_script=network_new=network_set_options=network_send=network_take_due=network_pending=network_in_flight=network_tick=journal_mark=journal_send=journal_take_due=journal_set_options=journal_rewind=plants_new=plants_apply=plants_verdict=plants_choose_core=properties_fresh=properties_reboot=properties_tick=properties_end=fate=plants_verdicts=",
         which,
     );
 }

@@ -3,10 +3,12 @@ use samples_list::Turn;
 ghost use Prim.Native.Nat.{_≤_};
 ghost use lib.ListN.{length};
 
-// Where each row begins among the words that are expected: the list's rows 4, 9 and 12 to 15, one behind the other.
+// Where each row begins among the words that are expected: the list's rows 4, 7, 9, 12 to 15 and 22, one behind the other.
 const DRAWS: usize = 0;
 
-const TOLD: usize = DRAWS + DRAWN;
+const TAKEN: usize = DRAWS + DRAWN;
+
+const TOLD: usize = TAKEN + TAKES;
 
 const PLANTS: usize = TOLD + 1;
 
@@ -16,14 +18,20 @@ const PICKS: usize = RECOVERING + FLAGS;
 
 const CORE: usize = PICKS + PICKED;
 
-const ALL: usize = CORE + plants_words::CORE_WORDS;
+const VERDICTS: usize = CORE + plants_words::CORE_WORDS;
+
+const ALL: usize = VERDICTS + JUDGED;
 
 // How many words the rows have that the boundary does not fix.
 const DRAWN: usize = 64;
 
+const TAKES: usize = 1040;
+
 const FLAGS: usize = 20;
 
 const PICKED: usize = 64;
+
+const JUDGED: usize = 20;
 
 // Where a row begins, and how many words it has; what is no row here has none.
 fn start_of(row: u64) -> usize
@@ -31,11 +39,13 @@ fn start_of(row: u64) -> usize
 {
     match row {
         4 => DRAWS,
+        7 => TAKEN,
         9 => TOLD,
         12 => PLANTS,
         13 => RECOVERING,
         14 => PICKS,
         15 => CORE,
+        22 => VERDICTS,
         _ => ALL,
     }
 }
@@ -45,11 +55,13 @@ fn size_of(row: u64) -> usize
 {
     match row {
         4 => DRAWN,
+        7 => TAKES,
         9 => 1,
         12 => plants_layout::WORDS,
         13 => FLAGS,
         14 => PICKED,
         15 => plants_words::CORE_WORDS,
+        22 => JUDGED,
         _ => 0,
     }
 }
@@ -60,15 +72,16 @@ fn fits(n: [u64; samples_list::NUMBERS]) -> bool {
         13 | 15 => true,
         14 => n[5] <= DRAWN as u64,
         16 => (n[2] <= FLAGS as u64) & (n[3] <= PICKED as u64),
+        22 => (n[2] <= TAKES as u64) & (n[3] <= JUDGED as u64),
         _ => false,
     }
 }
 
-// Whether a step gives words to a row of these; calls write rows 9, 12 and 15.
+// Whether a step gives words to a row of these; calls write rows 9, 12, 15 and 22.
 fn is_given(step: Turn) -> bool {
     match samples_list::row_of(step) {
-        9 | 12 | 15 => true,
-        4 | 13 | 14 => samples_list::is_lent(step),
+        9 | 12 | 15 | 22 => true,
+        4 | 7 | 13 | 14 => samples_list::is_lent(step),
         _ => false,
     }
 }
@@ -111,26 +124,40 @@ fn choose_core(
     bellmantle::bellmantle_plants_choose_core(plants, recovering, picks, n[4], core)
 }
 
+fn verdicts(
+    n: [u64; samples_list::NUMBERS],
+    expected: &[u64],
+    plants: &[u64; plants_layout::WORDS],
+    judged: &mut [u64],
+) -> u64 {
+    let taken = samples_list::part(expected, TAKEN, n[2]);
+    let room = samples_list::lent(n[3], judged);
+    bellmantle::bellmantle_plants_verdicts(plants, taken, &mut judged[..room])
+}
+
 fn run(
     n: [u64; samples_list::NUMBERS],
     expected: &[u64],
     told: &mut [u64; 1],
     plants: &mut [u64; plants_layout::WORDS],
     core: &mut [u64; plants_words::CORE_WORDS],
+    judged: &mut [u64; JUDGED],
 ) -> u64 {
     match n[0] {
         13 => bellmantle::bellmantle_plants_new(n[2], plants),
         14 => apply(n, expected, told, plants),
         15 => bellmantle::bellmantle_plants_verdict(plants, n[2], n[3], n[4], told),
+        22 => verdicts(n, expected, plants, judged),
         _ => choose_core(n, expected, plants, core),
     }
 }
 
 // Whether the rows that calls write are as they are expected.
-fn is_kept(expected: &[u64], told: &[u64], plants: &[u64], core: &[u64]) -> bool {
+fn is_kept(expected: &[u64], told: &[u64], plants: &[u64], core: &[u64], judged: &[u64]) -> bool {
     samples_list::agrees(expected, TOLD, told)
         & samples_list::agrees(expected, PLANTS, plants)
         & samples_list::agrees(expected, CORE, core)
+        & samples_list::agrees(expected, VERDICTS, judged)
 }
 
 // What a call that was accepted came to: a verdict, the size of a core, or that it was done.
@@ -149,10 +176,11 @@ fn call(
     told: &mut [u64; 1],
     plants: &mut [u64; plants_layout::WORDS],
     core: &mut [u64; plants_words::CORE_WORDS],
+    judged: &mut [u64; JUDGED],
     counts: &mut [u64],
 ) {
-    let answer = run(n, expected, told, plants, core);
-    let kept = is_kept(expected, told, plants, core);
+    let answer = run(n, expected, told, plants, core, judged);
+    let kept = is_kept(expected, told, plants, core, judged);
     let same = kept & (answer == n[1]);
     let came = outcome(n[0], told[0], core[0]);
     samples_list::met(counts, n[0], same, answer, came);
@@ -169,7 +197,14 @@ fn edited(list: &[u8], step: Turn, expected: &mut [u64]) -> usize
 }
 
 // Puts a step's words into the row that is lent too.
-fn lend(step: Turn, expected: &[u64], told: &mut [u64], plants: &mut [u64], core: &mut [u64]) {
+fn lend(
+    step: Turn,
+    expected: &[u64],
+    told: &mut [u64],
+    plants: &mut [u64],
+    core: &mut [u64],
+    judged: &mut [u64],
+) {
     if !samples_list::is_lent(step) {
         return;
     }
@@ -180,6 +215,7 @@ fn lend(step: Turn, expected: &[u64], told: &mut [u64], plants: &mut [u64], core
         9 => samples_list::carry(expected, from, told, span.at, span.count),
         12 => samples_list::carry(expected, from, plants, span.at, span.count),
         15 => samples_list::carry(expected, from, core, span.at, span.count),
+        22 => samples_list::carry(expected, from, judged, span.at, span.count),
         _ => {}
     }
 }
@@ -192,17 +228,18 @@ fn turned(
     told: &mut [u64; 1],
     plants: &mut [u64; plants_layout::WORDS],
     core: &mut [u64; plants_words::CORE_WORDS],
+    judged: &mut [u64; JUDGED],
     counts: &mut [u64],
 ) -> usize
     requires { ⌜ step .next ≤ length (now list) ⌝ }
 {
     if step.sort == samples_list::CALL {
         let n = step.numbers;
-        call(n, expected, told, plants, core, counts);
+        call(n, expected, told, plants, core, judged, counts);
         return step.next;
     }
     let next = edited(list, step, expected);
-    lend(step, expected, told, plants, core);
+    lend(step, expected, told, plants, core, judged);
     next
 }
 
@@ -212,6 +249,7 @@ pub fn replay(list: &[u8], from: usize, counts: &mut [u64]) -> usize {
     let mut told = [0u64; 1];
     let mut plants = [0u64; plants_layout::WORDS];
     let mut core = [0u64; plants_words::CORE_WORDS];
+    let mut judged = [0u64; JUDGED];
     let mut at = from;
     let mut left = list.len();
     while 0 < left {
@@ -227,6 +265,7 @@ pub fn replay(list: &[u8], from: usize, counts: &mut [u64]) -> usize {
             &mut told,
             &mut plants,
             &mut core,
+            &mut judged,
             counts,
         );
         if next == 0 {

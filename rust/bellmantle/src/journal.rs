@@ -13,7 +13,9 @@ pub struct JournaledNetwork<M> {
     journal: Vec<u64>,
     bodies: HashMap<u64, M>,
     next: u64,
+    /// What is taken is written here first, and so many records they were.
     out: Box<[u64; RECORDS_WORDS]>,
+    taken: usize,
 }
 
 impl<M: Clone> JournaledNetwork<M> {
@@ -28,6 +30,7 @@ impl<M: Clone> JournaledNetwork<M> {
             bodies: HashMap::new(),
             next: 0,
             out: Box::new([0; RECORDS_WORDS]),
+            taken: 0,
         })
     }
 
@@ -84,13 +87,19 @@ impl<M: Clone> JournaledNetwork<M> {
 
     /// A take, journaled.
     pub fn take_due(&mut self, now: u64) -> Result<Vec<Envelope<M>>, Refusal> {
-        let taken = self
+        self.taken = self
             .words
             .take_due_journaled(now, &mut self.out[..], &mut self.journal)?;
-        Ok(self.out[..taken * RECORD_WORDS]
+        Ok(self
+            .taken()
             .chunks_exact(RECORD_WORDS)
             .map(|words| envelope(words, self.bodies[&words[record::HANDLE]].clone()))
             .collect())
+    }
+
+    /// The records of the last take that was accepted, as [`Network::taken`](crate::Network::taken) has them.
+    pub fn taken(&self) -> &[u64] {
+        &self.out[..self.taken * RECORD_WORDS]
     }
 
     /// A change of options, journaled.

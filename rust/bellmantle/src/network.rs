@@ -268,8 +268,9 @@ pub struct Network<M> {
     /// What is sent and not queued yet. The copies of both together are no more than the capacity.
     posted: Posted,
     bodies: Bodies<M>,
-    /// What is taken is written here first.
+    /// What is taken is written here first, and so many records they were.
     out: Box<[u64; RECORDS_WORDS]>,
+    taken: usize,
 }
 
 impl<M: Clone> Network<M> {
@@ -284,6 +285,7 @@ impl<M: Clone> Network<M> {
             posted: Posted::default(),
             bodies: Bodies::new(),
             out: Box::new([0; RECORDS_WORDS]),
+            taken: 0,
         })
     }
 
@@ -394,14 +396,23 @@ impl<M: Clone> Network<M> {
     pub fn take_due(&mut self, now: u64) -> Result<Vec<Envelope<M>>, Refusal> {
         let is_due = self.next_due().is_some_and(|due| due <= now);
         if !is_due {
+            self.taken = 0;
             return Ok(Vec::new());
         }
-        let taken = self.take(now)?;
-        let Network { out, bodies, .. } = self;
-        Ok(out[..taken * RECORD_WORDS]
+        self.taken = self.take(now)?;
+        let Network {
+            out, taken, bodies, ..
+        } = self;
+        Ok(out[..*taken * RECORD_WORDS]
             .chunks_exact(RECORD_WORDS)
             .map(|record| envelope(record, bodies.deliver(record[at::HANDLE])))
             .collect())
+    }
+
+    /// The records of the last take that was accepted, in its order, [`raw::RECORD_WORDS`] words each: what
+    /// [`Plants::verdicts`](crate::Plants::verdicts) is lent. A record's handle names a body that is delivered, and nothing any more.
+    pub fn taken(&self) -> &[u64] {
+        &self.out[..self.taken * RECORD_WORDS]
     }
 
     /// Queues what is posted and takes what is due, in one call.
@@ -451,6 +462,7 @@ impl<M: Clone> Network<M> {
                 messages,
             }),
             Ok([draws, extras, taken]) => {
+                self.taken = taken;
                 let due = self.settle(messages, taken);
                 Ok(Ticked { draws, extras, due })
             }

@@ -1,7 +1,7 @@
 //! Which plants are up and which are cut off, and the choice of the core.
 
 use crate::raw::plants::{CRASHES, N, PARTITIONED, REBOOTS, RESTARTS, STABLE, UP};
-use crate::raw::{self, core, CORE_WORDS, PLANTS_WORDS};
+use crate::raw::{self, core, CORE_WORDS, MOST_PLANTS, PLANTS_WORDS, RECORD_WORDS};
 use crate::{Fault, Origin, Refusal};
 
 /// The state of 3 to 15 plants.
@@ -19,6 +19,18 @@ pub enum Verdict {
     ReceiverDown,
     /// The receiver, or a sending plant, is cut off.
     CutOff,
+}
+
+impl Verdict {
+    /// By the number that tells it.
+    #[inline]
+    fn told(number: u64) -> Verdict {
+        match number {
+            0 => Verdict::Deliver,
+            1 => Verdict::ReceiverDown,
+            _ => Verdict::CutOff,
+        }
+    }
 }
 
 /// A chosen core: its ids, rising, and how many picks were used.
@@ -75,11 +87,41 @@ impl Plants {
         let (sort, id) = from.words();
         let mut told = [0; 1];
         Refusal::check(raw::plants_verdict(&self.words, sort, id, to, &mut told))?;
-        Ok(match told[0] {
-            0 => Verdict::Deliver,
-            1 => Verdict::ReceiverDown,
-            _ => Verdict::CutOff,
-        })
+        Ok(Verdict::told(told[0]))
+    }
+
+    /// What becomes of the messages of a take, by their records ([`Network::taken`](crate::Network::taken), or what
+    /// [`Words::take_due`](crate::Words::take_due) writes): for each what [`verdict`](Plants::verdict) answers, in one call. 30 for
+    /// words that are no whole number of records; then the first refusal among 24, 40, 42 and 41.
+    ///
+    /// ```
+    /// use bellmantle::{Fault, Kind, Network, NetworkOptions, Origin, Plants, Verdict};
+    ///
+    /// let mut network = Network::new(NetworkOptions::perfect()).unwrap();
+    /// let mut plants = Plants::new(3).unwrap();
+    /// plants.apply(0, Fault::Crash(2), &[]).unwrap();
+    /// for to in [1, 2] {
+    ///     network.send(0, Origin::Replica(0), to, Kind::Prepare, "a body", &[], &[]).unwrap();
+    /// }
+    /// let due = network.take_due(0).unwrap();
+    /// let verdicts = plants.verdicts(network.taken()).unwrap();
+    /// assert_eq!(verdicts, [Verdict::Deliver, Verdict::ReceiverDown]);
+    /// assert_eq!(due.len(), verdicts.len());
+    /// ```
+    pub fn verdicts(&self, taken: &[u64]) -> Result<Vec<Verdict>, Refusal> {
+        Ok(self.verdicts_in(taken, &mut Vec::new())?.collect())
+    }
+
+    /// The same, told in words that the caller keeps from take to take.
+    pub fn verdicts_in<'a>(
+        &self,
+        taken: &[u64],
+        told: &'a mut Vec<u64>,
+    ) -> Result<impl ExactSizeIterator<Item = Verdict> + 'a, Refusal> {
+        told.clear();
+        told.resize(taken.len() / RECORD_WORDS, 0);
+        Refusal::check(raw::plants_verdicts(&self.words, taken, told))?;
+        Ok(told.iter().map(|&number| Verdict::told(number)))
     }
 
     /// Chooses the core by the lent picks: 40, 42, 45, 48, 46, 47, 43.
@@ -89,11 +131,16 @@ impl Plants {
         picks: &[u64],
         full: bool,
     ) -> Result<Core, Refusal> {
-        let flags: Vec<u64> = recovering.iter().map(|&flag| u64::from(flag)).collect();
+        // More flags than there can be plants are as many too many with one of them.
+        let mut flags = [0; MOST_PLANTS + 1];
+        for (word, &flag) in flags.iter_mut().zip(recovering) {
+            *word = u64::from(flag);
+        }
+        let flags = &flags[..recovering.len().min(MOST_PLANTS + 1)];
         let mut told = [0; CORE_WORDS];
         Refusal::check(raw::plants_choose_core(
             &mut self.words,
-            &flags,
+            flags,
             picks,
             u64::from(full),
             &mut told,

@@ -472,6 +472,22 @@ pub fn plants_verdict(
     unsafe { sys::bellmantle_plants_verdict(words, sort, id, to, told) }
 }
 
+/// What becomes of the messages of a take, [`RECORD_WORDS`] words each as it gives them: 30 if there is not one for each word of `told`;
+/// then, record by record, what [`plants_verdict`] answers, and the first refusal is the answer; then 40, 42 of the state, where there
+/// is no record. Told: for each the number that [`plants_verdict`] tells.
+pub fn plants_verdicts(words: &[u64; PLANTS_WORDS], records: &[u64], told: &mut [u64]) -> u64 {
+    // SAFETY: as the module says of every reference.
+    unsafe {
+        sys::bellmantle_plants_verdicts(
+            words,
+            records.as_ptr(),
+            records.len(),
+            told.as_mut_ptr(),
+            told.len(),
+        )
+    }
+}
+
 /// Chooses the core: 40, 42, 45, 48, 46, 47, 43. `recovering` has a flag for each plant; `full` asks for all plants, no for 0 and
 /// yes otherwise.
 pub fn plants_choose_core(

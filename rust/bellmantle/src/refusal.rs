@@ -42,7 +42,7 @@ pub enum Refusal {
     LateTick,
     /// 29: more than 128 messages would be in flight.
     Full,
-    /// 30: the output is shorter than the records.
+    /// 30: the output is shorter than the records, or has not a word for each that is to be judged.
     ShortOutput,
     /// 31: the journal's header is bad, or a record does not fit.
     BadJournal,

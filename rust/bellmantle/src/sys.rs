@@ -169,6 +169,14 @@ extern "C" {
         told: *mut [u64; 1],
     ) -> u64;
 
+    pub fn bellmantle_plants_verdicts(
+        words: *const [u64; 49],
+        records: *const u64,
+        records_len: usize,
+        told: *mut u64,
+        told_len: usize,
+    ) -> u64;
+
     pub fn bellmantle_plants_choose_core(
         words: *mut [u64; 49],
         recovering: *const u64,

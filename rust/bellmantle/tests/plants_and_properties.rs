@@ -1,7 +1,9 @@
 //! The plants, their core and the cluster properties through the safe crate.
 
+use bellmantle::raw::{plants, record};
 use bellmantle::{
-    Broken, Core, Fault, Origin, Plants, Property, Refusal, Snapshot, Tracker, Verdict,
+    Broken, Core, Fault, Kind, Message, Network, NetworkOptions, Origin, Plants, Property, Refusal,
+    Snapshot, Tracker, Verdict,
 };
 
 #[test]
@@ -19,6 +21,73 @@ fn faults_and_verdicts() {
     assert_eq!(plants.apply(9, Fault::HealAll, &[]), Ok(None));
     assert_eq!(plants.verdict(from, 1), Ok(Verdict::Deliver));
     assert_eq!(plants.counts(), (1, 1, 1));
+}
+
+/// Five plants, of which 1 is down and 2 is cut off.
+fn five_plants() -> Plants {
+    let mut plants = Plants::new(5).unwrap();
+    plants.apply(3, Fault::Crash(1), &[]).unwrap();
+    plants.apply(4, Fault::Partition(2), &[]).unwrap();
+    plants
+}
+
+/// A network that takes all that is sent at a tick, with a message from each sender to each plant sent and taken.
+fn taken() -> Network<u64> {
+    let mut network = Network::new(NetworkOptions::perfect()).unwrap();
+    let senders = [Origin::Replica(0), Origin::Replica(2), Origin::Client(99)];
+    let messages = senders.into_iter().flat_map(|from| {
+        (0..5).map(move |to| Message {
+            now: 7,
+            from,
+            to,
+            kind: Kind::Prepare,
+            body: to,
+        })
+    });
+    let ticked = network.tick(messages.collect(), &[], &[], 7).unwrap();
+    assert_eq!(ticked.due.len(), 15);
+    network
+}
+
+#[test]
+fn the_verdicts_on_a_take_are_those_on_its_messages() {
+    let (plants, mut network) = (five_plants(), taken());
+    let verdicts = plants.verdicts(network.taken()).unwrap();
+    assert_eq!(verdicts.len(), 15);
+    for (words, verdict) in network.taken().chunks_exact(8).zip(verdicts) {
+        let from = match words[record::SORT] {
+            0 => Origin::Replica(words[record::ORIGIN]),
+            _ => Origin::Client(words[record::ORIGIN]),
+        };
+        assert_eq!(plants.verdict(from, words[record::TO]), Ok(verdict));
+    }
+    assert_eq!(network.take_due(8).unwrap(), []);
+    assert_eq!(plants.verdicts(network.taken()), Ok(Vec::new()));
+}
+
+#[test]
+fn the_first_refusal_of_a_take_is_told() {
+    let (good, network) = (five_plants(), taken());
+    let forged = |place: usize, word: u64| {
+        let mut words = *good.words();
+        words[place] = word;
+        Plants::from_words(words)
+    };
+    let mut records = network.taken().to_vec();
+    assert_eq!(good.verdicts(&records[1..]), Err(Refusal::ShortOutput));
+    records[8 * 9 + record::SORT] = 2;
+    assert_eq!(good.verdicts(&records), Err(Refusal::BadMessage));
+    records[8 * 4 + record::TO] = 5;
+    assert_eq!(good.verdicts(&records), Err(Refusal::UnknownPlant));
+    // The state is asked with the first record, behind its sort; and alone where there is none.
+    for (state, refusal) in [
+        (forged(plants::N, 16), Refusal::PlantCount),
+        (forged(plants::UP + 5, 1), Refusal::BadPlants),
+    ] {
+        assert_eq!(state.verdicts(&records), Err(refusal));
+        assert_eq!(state.verdicts(&records[8 * 9..]), Err(Refusal::BadMessage));
+        assert_eq!(state.verdicts(&[]), Err(refusal));
+    }
 }
 
 #[test]

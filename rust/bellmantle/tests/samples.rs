@@ -10,9 +10,9 @@ use std::collections::BTreeMap;
 use std::path::Path;
 
 /// The words of each row.
-const ROOMS: [usize; 22] = [
+const ROOMS: [usize; 23] = [
     65_600, 6_200, 12, 1_024, 64, 64, 600, 1_040, 2_064, 1, 3, 4, 49, 20, 64, 17, 64, 7_700, 20,
-    20, 2_460, 6,
+    20, 2_460, 6, 20,
 ];
 
 const TEXT: usize = 0;
@@ -28,9 +28,10 @@ const PLANTS: usize = 12;
 const CORE: usize = 15;
 const TRACKER: usize = 20;
 const TOLD6: usize = 21;
+const VERDICTS: usize = 22;
 
 /// A call's name, how many numbers it has, and the rows that it may write.
-const CALLS: [(&str, usize, &[usize]); 22] = [
+const CALLS: [(&str, usize, &[usize]); 23] = [
     ("parse_script", 2, &[EVENTS]),
     ("network_new", 5, &[HEAD, RECORDS]),
     ("network_set_options", 5, &[HEAD]),
@@ -53,9 +54,10 @@ const CALLS: [(&str, usize, &[usize]); 22] = [
     ("properties_tick", 4, &[TRACKER, TOLD4]),
     ("properties_end", 6, &[TOLD4]),
     ("fate", 9, &[TOLD6]),
+    ("plants_verdicts", 2, &[VERDICTS]),
 ];
 
-type Rows = [Vec<u64>; 22];
+type Rows = [Vec<u64>; 23];
 
 /// What is counted of a call: how often, how often otherwise than expected, refusals, and outcomes by a place and a name.
 #[derive(Default)]
@@ -217,7 +219,7 @@ fn whole<const N: usize>(row: &mut [u64]) -> &mut [u64; N] {
 
 /// Runs a call on rows, unless it is to be lent more than there is.
 fn call(which: usize, n: &[u64], rows: &mut Rows) -> Option<u64> {
-    let [text, events, head, records, draws, extras, sends, out, journal, told1, told3, told4, plants, recovering, picks, core, snapshot, logs, values, ids, tracker, told6] =
+    let [text, events, head, records, draws, extras, sends, out, journal, told1, told3, told4, plants, recovering, picks, core, snapshot, logs, values, ids, tracker, told6, verdicts] =
         rows;
     let (head, records) = (whole(head), whole(records));
     let (told1, told3, told4) = (whole(told1), whole(told3), whole(told4));
@@ -279,11 +281,12 @@ fn call(which: usize, n: &[u64], rows: &mut Rows) -> Option<u64> {
             let (ids, tracker) = (front(ids, n[4])?, front(tracker, n[5])?);
             raw::properties_end(n[0], snapshot, logs, &values, ids, tracker, told4)
         }
-        _ => {
+        21 => {
             let options = [n[0], n[1], n[2], n[3], n[4]];
             let (draws, extras) = (front(draws, n[7])?, front(extras, n[8])?);
             raw::fate(options, n[5], n[6], draws, extras, whole(told6))
         }
+        _ => raw::plants_verdicts(plants, front(out, n[0])?, front(verdicts, n[1])?),
     })
 }
 
@@ -332,10 +335,10 @@ fn a_list_that_is_no_list() {
     // A step, a row, a place and a call that there are not, a byte over 255, a number too large, and lists that end too soon.
     let lists: [&[u8]; 10] = [
         &[4],
-        &[0, 1, 22, 0, 1, 7],
+        &[0, 1, 23, 0, 1, 7],
         &[0, 1, 9, 1, 1, 7],
         &[0, 2, 9, 0, 1, 7],
-        &[3, 22, 0],
+        &[3, 23, 0],
         &[0, 1, 0, 0, 1, 128, 2],
         &[
             0, 1, 9, 0, 1, 255, 255, 255, 255, 255, 255, 255, 255, 255, 2,

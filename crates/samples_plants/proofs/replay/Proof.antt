@@ -6,10 +6,10 @@ use Rattle.samples_plants.proofs.replay.Statement.{statement}
 use Rattle.samples_plants.proofs.replay.Tie as tie
 
 abbrev Inv-loop : tie.InvT-loop
-Inv-loop list from counts₀ expected₀ told₀ plants₀ core₀ at₀ left₀ counts expected told plants core at left = length counts ≡ length counts₀
+Inv-loop list from counts₀ expected₀ told₀ plants₀ core₀ judged₀ at₀ left₀ counts expected told plants core judged at left = length counts ≡ length counts₀
 
 abbrev μ-loop : tie.MeasureT-loop
-μ-loop list from counts₀ expected₀ told₀ plants₀ core₀ at₀ left₀ counts expected told plants core at left = left
+μ-loop list from counts₀ expected₀ told₀ plants₀ core₀ judged₀ at₀ left₀ counts expected told plants core judged at left = left
 
 loop-holds : tie.Need-loop-holds Inv-loop μ-loop
 loop-holds c = search needs
