@@ -8,13 +8,14 @@ use native.Mathlib.Omega.{arith}
 use lib.Dec.{ltb, eqb}
 use lib.ListN.{length, length-map}
 use Rattle.numeral.specs.Digits.{isDigit, allDigits, valueOf}
-use Rattle.numeral.specs.Reading.{unsigned, isNumber, inDigits, numberOf}
+use Rattle.numeral.specs.Reading.{unsigned, beginsNumber, stopFrom, stop, numberOf}
+use Rattle.numeral.specs.declared.Why.the-variants.{StrayByte}
 use Rattle.order.specs.Order.{eventWords, inserted, sorted, Rising, Permuted, ofTick}
 use Rattle.order.proofs.Laws.{sorted-rising, sorted-permuted, sorted-stable, length-sorted}
 use Rattle.script_words.specs.Words.{isSpace, notSpace, until, cutAt, joined, linesOf, stripFront, keptBefore, stripEnd, strip, begins}
 use Rattle.script_words.specs.Words as words
 use Rattle.script.specs.Faults.{same, namedBy}
-use Rattle.script.specs.Lines.{ofWords, lineSays}
+use Rattle.script.specs.Lines.{flawAt, ofWords, lineSays}
 use Rattle.script.specs.Scripts.{longest, strayFrom, strayLine, eventsOf, linesJudged, said, scriptAnswer, sortedEvents, scriptWords}
 use Rattle.script.specs.declared.line.Line.{Line}
 use Rattle.script.specs.declared.line.Line.the-variants.{Blank, Event, Faulty}
@@ -123,11 +124,12 @@ comma-tick = 49 ∷ 44 ∷ 53 ∷ 48 ∷ 48 ∷ 32 ∷ 99 ∷ 114 ∷ 97 ∷ 115
 comma-id : List ℕ
 comma-id = 53 ∷ 32 ∷ 99 ∷ 114 ∷ 97 ∷ 115 ∷ 104 ∷ 32 ∷ 49 ∷ 44 ∷ 53 ∷ 48 ∷ 48 ∷ 10 ∷ []
 
--- the sample has two events, the crash of plant 1 at tick 5 first, and what was lent behind them stays; a comma is a bad tick or a bad id
+-- the sample has two events, the crash of plant 1 at tick 5 first, and what was lent behind them stays; a comma is a bad tick or a bad id,
+-- at the second byte
 samples :
     (scriptAnswer sample 8 ≡ Events 2)
     × (scriptWords sample (9 ∷ 9 ∷ 9 ∷ 9 ∷ 9 ∷ 9 ∷ 9 ∷ 8 ∷ []) ≡ 5 ∷ 0 ∷ 1 ∷ 20 ∷ 5 ∷ 0 ∷ 9 ∷ 8 ∷ [])
-    × (scriptAnswer comma-tick 6 ≡ Refused BadTick 1)
-    × (scriptAnswer comma-id 6 ≡ Refused BadId 1)
-unfolding sample comma-tick comma-id scriptWords sortedEvents sorted inserted eventWords eventsOf scriptAnswer strayLine strayFrom linesJudged lineSays ofWords linesOf joined cutAt until strip stripEnd keptBefore stripFront isSpace notSpace begins words.lineWords namedBy same numberOf unsigned inDigits isNumber allDigits isDigit valueOf
+    × (scriptAnswer comma-tick 6 ≡ Refused (BadTick (flawAt StrayByte 1)) 1)
+    × (scriptAnswer comma-id 6 ≡ Refused (BadId (flawAt StrayByte 1)) 1)
+unfolding sample comma-tick comma-id scriptWords sortedEvents sorted inserted eventWords eventsOf scriptAnswer strayLine strayFrom linesJudged lineSays ofWords linesOf joined cutAt until strip stripEnd keptBefore stripFront isSpace notSpace begins words.lineWords namedBy same numberOf stop stopFrom beginsNumber unsigned allDigits isDigit valueOf
 samples = (refl, refl, refl, refl)

@@ -1,5 +1,6 @@
 -- Laws that belong to no one function.
 pub mod Saying
+pub mod Reasons
 pub mod Judging
 pub mod Filling
 pub mod Most

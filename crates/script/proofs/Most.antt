@@ -148,7 +148,7 @@ abbrev Costs : Line → ℕ → Type 0
 Costs l n = 9 * length (lineEvents l) ≤ n
 
 with-number : (tick : ℕ) (fault : Fault) (w : List ℕ) (n : Number) (k : ℕ) → numberOf w ≡ n → (1 ≤ length w → 9 ≤ k) → Costs (withNumber tick fault n) k
-with-number tick fault w Bad k e h = omega arith
+with-number tick fault w (Bad why byte) k e h = omega arith
 with-number tick fault w (Value id) k e h = let x = h (number-long w id e) in omega arith
 
 with-words : (tick : ℕ) (fault : Fault) (ws : List (List ℕ)) (k : ℕ) → 7 ≤ k → Costs (withWords tick fault ws) (k + spread ws)
@@ -168,7 +168,7 @@ with-name tick Unknown name ws k e h = omega arith
 with-name tick (Is fault) name ws k e h = with-fault (needsId fault) tick fault name ws k refl (name-long name fault e) h
 
 with-tick : (n : Number) (tick name : List ℕ) (ws : List (List ℕ)) → numberOf tick ≡ n → Costs (withTick n name ws) (suc (length tick) + (suc (length name) + spread ws))
-with-tick Bad tick name ws e = omega arith
+with-tick (Bad why byte) tick name ws e = omega arith
 with-tick (Value t) tick name ws e = with-name t (namedBy name) name ws (suc (length tick)) refl (omega (arith, number-long tick t e))
 
 words-cost : (ws : List (List ℕ)) → Costs (ofWords ws) (spread ws)

@@ -63,8 +63,8 @@ pub fn refusal_why(refusal: Refusal) -> u64
     ensures { λ r. ⌜ r ≡ refusalWhy refusal ⌝ }
 {
     match refusal {
-        Refusal::BadTick(flaw) => numeral::why_number(flaw.why),
-        Refusal::BadId(flaw) => numeral::why_number(flaw.why),
+        Refusal::BadTick(flaw) => flaw.number(),
+        Refusal::BadId(flaw) => flaw.number(),
         _ => 0,
     }
 }

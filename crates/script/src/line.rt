@@ -6,6 +6,7 @@ use numeral::Number;
 use numeral::Why;
 ghost use mathlib.Core.Path.{_≡_};
 ghost use Prim.Native.Nat.{ℕ};
+ghost use Rattle.numeral.specs.Reading.{whyNumber};
 ghost use Rattle.script_words.specs.Words.{lineWords};
 ghost use Rattle.script.specs.Lines.{flawAt, lineSays, ofWords, withFault, present};
 
@@ -13,6 +14,16 @@ ghost use Rattle.script.specs.Lines.{flawAt, lineSays, ofWords, withFaul
 pub struct Flaw {
     pub why: Why,
     pub byte: usize,
+}
+
+impl Flaw {
+    // The reason's number.
+    pub fn number(self) -> u64
+        ensures { λ r. ⌜ r ≡ whyNumber (self .why) ⌝ }
+    {
+        let why = self.why;
+        numeral::why_number(why)
+    }
 }
 
 // Why a script is refused, in the order in which it is tested.
