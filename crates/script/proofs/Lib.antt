@@ -8,3 +8,4 @@ pub mod Reading
 pub mod Laws
 pub mod Stray
 pub mod FirstFault
+pub mod Flaws

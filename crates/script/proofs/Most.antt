@@ -24,7 +24,7 @@ use Rattle.script.specs.declared.line.Line.{Line}
 use Rattle.script.specs.declared.line.Line.the-variants.{Event}
 
 -- the room that lists take with one byte between any two, and one behind the last
-unfoldable spread : List (List ℕ) → ℕ
+unfoldable pub spread : List (List ℕ) → ℕ
 spread [] = 0
 spread (l ∷ ls) = suc (length l) + spread ls
 
@@ -39,7 +39,7 @@ unfolding spread
 line-more true b bs h = omega arith
 line-more false b bs h = spread-joined b (linesOf bs) (omega arith) ∙ ap suc h
 
-spread-lines : (text : List ℕ) → spread (linesOf text) ≡ suc (length text)
+pub spread-lines : (text : List ℕ) → spread (linesOf text) ≡ suc (length text)
 unfolding linesOf spread
 spread-lines [] = omega arith
 spread-lines (b ∷ bs) = line-more (eqb b 10) b bs (spread-lines bs)
@@ -101,6 +101,10 @@ unfolding strip cutAt
 shorter l =
     let m = take (until (eqb 35) l) l in
     omega (arith, strip-front (stripEnd m), strip-end m, length-take (until (eqb 35) l) l)
+
+-- the words of a line, as the definition cuts them
+pub words-fit : (l : List ℕ) → spread (lineWords (strip (cutAt 35 l))) ≤ suc (length l)
+words-fit l = omega (arith, fitting (strip (cutAt 35 l)) .fits, shorter l)
 
 -- ---- the shortest words: a number has a byte, heal has four, heal-all has eight
 number-long : (w : List ℕ) (n : ℕ) → numberOf w ≡ Value n → 1 ≤ length w
@@ -179,9 +183,7 @@ words-cost (t ∷ name ∷ ws) = with-tick (numberOf t) t name ws refl
 
 line-costs : (l : List ℕ) → Costs (lineSays l) (suc (length l))
 unfolding lineSays
-line-costs l =
-    let m = strip (cutAt 35 l) in
-    omega (arith, words-cost (lineWords m), fitting m .fits, shorter l)
+line-costs l = omega (arith, words-cost (lineWords (strip (cutAt 35 l))), words-fit l)
 
 lines-cost : (ls : List (List ℕ)) → 9 * length (eventsOf (map lineSays ls)) ≤ spread ls
 unfolding eventsOf spread
