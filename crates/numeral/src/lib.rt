@@ -93,7 +93,7 @@ fn with_digit(value: u64, byte: u8) -> Step
         return Step::Stopped(Why::StrayByte);
     }
     if 1844674407370955161 < value {
-        return Step::Stopped(Why::TooLarge);
+        return Step::Stopped(Why::TooLarge); // whatever stands behind it
     }
     let digit = (byte - b'0') as u64;
     let tens = value * 10;

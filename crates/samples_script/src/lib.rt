@@ -92,7 +92,7 @@ fn outcome(answer: u64) -> u64 {
 }
 
 // Where a refusal's number begins in an answer: below it stand why and where a number went bad, and the line.
-const NUMBER_BIT: u32 = 56;
+const NUMBER_BIT: u64 = 56;
 
 // Runs a call and counts it. Its answer is how many events there are, or has the refusal's number above the rest.
 fn call(
