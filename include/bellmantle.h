@@ -2,7 +2,8 @@
  *
  * Every call takes any numbers and words, ends, and returns 0 or the number of its refusal, one of BELLMANTLE_REFUSED_* below. On a
  * refusal no word that was lent is changed, those lent for the answer included, and no draw is used. Two calls return more than a
- * number: bellmantle_parse_script and bellmantle_network_tick, whose refusals tell a place too.
+ * number: bellmantle_parse_script, whose refusals bellmantle_refused_* take apart, and bellmantle_network_tick, whose refusals tell a
+ * place too.
  *
  * Who may hold what: a call reads and writes only what it is lent, keeps nothing when it returns, and takes no memory of its own but
  * the stack (at most 192 KiB, in bellmantle_parse_script). A pointer must be of words that the caller owns and that nobody else
@@ -27,10 +28,10 @@ enum bellmantle_refusal {
     BELLMANTLE_REFUSED_TOO_LONG = 1,       /* the text is over 65,536 bytes (line 0) */
     BELLMANTLE_REFUSED_NOT_ASCII = 2,      /* a byte over 127 */
     BELLMANTLE_REFUSED_ONE_WORD = 3,       /* only one word on the line */
-    BELLMANTLE_REFUSED_BAD_TICK = 4,       /* the tick is no number */
+    BELLMANTLE_REFUSED_BAD_TICK = 4,       /* the tick is no number: why and at which byte is told */
     BELLMANTLE_REFUSED_UNKNOWN_FAULT = 5,  /* no such fault; a fault's number over 5 */
     BELLMANTLE_REFUSED_MISSING_ID = 6,     /* the fault needs a plant's id */
-    BELLMANTLE_REFUSED_BAD_ID = 7,         /* the id is no number */
+    BELLMANTLE_REFUSED_BAD_ID = 7,         /* the id is no number, told likewise */
     BELLMANTLE_REFUSED_NO_ROOM = 8,        /* more events than words were lent for */
     /* the network */
     BELLMANTLE_REFUSED_BAD_LOSS = 20,      /* the loss probability is not from 0 to 1 */
@@ -66,8 +67,8 @@ enum bellmantle_refusal {
 /* ---- Fault scripts */
 
 /* Reads a fault script of `text_len` bytes. Each event is three of the lent words: tick, fault and id; only the events found are
- * written, by tick, those of one tick in file order. Returns how many they are or, for a refusal, its number times 2^32 and its line,
- * counted from 1. An accepted script has fewer than 2^32 events. */
+ * written, by tick, those of one tick in file order. Returns how many they are, fewer than 2^56, or a refusal, packed into the word,
+ * since a refusal writes nothing that was lent: its number times 2^56, why times 2^48, the byte times 2^24, and its line. */
 enum bellmantle_fault {
     BELLMANTLE_CRASH = 0,
     BELLMANTLE_RESTART = 1,
@@ -78,6 +79,25 @@ enum bellmantle_fault {
 };
 
 uint64_t bellmantle_parse_script(const uint8_t *text, size_t text_len, uint64_t *events, size_t events_len);
+
+/* Why a word is no number. The earliest reason wins. */
+enum bellmantle_why {
+    BELLMANTLE_WHY_NO_DIGIT = 1,   /* it ends where a digit must stand */
+    BELLMANTLE_WHY_STRAY_BYTE = 2, /* a byte that is no digit, such as the comma of 1,500 */
+    BELLMANTLE_WHY_TOO_LARGE = 3   /* with this digit it passes 2^64 - 1 */
+};
+
+/* What bellmantle_parse_script returned, taken apart. The refusal's number; 0 if the script was read, and then the word is the count of
+ * events. */
+static inline uint64_t bellmantle_refused_number(uint64_t returned) { return returned >> 56; }
+
+/* The refusal's line, counted from 1; 0 for a text that is too long. */
+static inline uint64_t bellmantle_refused_line(uint64_t returned) { return returned & 0xffffff; }
+
+/* For a bad tick and a bad id: one of BELLMANTLE_WHY_*, and at which byte of the word, counted from 0. For other refusals 0. */
+static inline uint64_t bellmantle_refused_why(uint64_t returned) { return returned >> 48 & 0xff; }
+
+static inline uint64_t bellmantle_refused_byte(uint64_t returned) { return returned >> 24 & 0xffffff; }
 
 /* ---- The network
  *

@@ -250,7 +250,8 @@ impl Call {
     /// The number of a refusal in a returned word, or 0.
     pub fn refusal(self, answer: u64) -> u64 {
         match self {
-            Call::ParseScript | Call::NetworkTick => answer >> 32,
+            Call::ParseScript => answer >> 56,
+            Call::NetworkTick => answer >> 32,
             _ => answer,
         }
     }

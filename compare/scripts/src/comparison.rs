@@ -2,17 +2,47 @@
 
 use crate::expected::{answer, Answer, EVENT_WORDS};
 use crate::inputs::Case;
+use crate::numbers::Flaw;
 use oracle::script::Event;
 use std::fmt;
 
 /// Words after those lent, which nobody may write.
 const GUARD: usize = 8;
 
-/// A reader's answer: refusal 0 and the number of events, or the refusal and the line.
+/// A reader's answer: refusal 0 and the number of events, or the refusal, the line and, for 4 and 7, what is wrong with the number.
 #[derive(Clone, Copy, Debug, PartialEq, Eq)]
 pub struct Reply {
     pub refusal: u32,
     pub number: u32,
+    pub flaw: Flaw,
+}
+
+impl Reply {
+    /// The parts of the word that the library returns.
+    pub fn of_word(word: u64) -> Reply {
+        let low = |shift: u32, bits: u32| (word >> shift & ((1 << bits) - 1)) as u32;
+        match low(56, 8) {
+            0 => Reply {
+                refusal: 0,
+                number: word as u32,
+                flaw: Flaw::default(),
+            },
+            refusal => Reply {
+                refusal,
+                number: low(0, 24),
+                flaw: Flaw {
+                    why: low(48, 8),
+                    byte: low(24, 24),
+                },
+            },
+        }
+    }
+
+    /// The word that the library must return.
+    pub fn word(self) -> u64 {
+        let part = |number: u32, shift: u32| u64::from(number) << shift;
+        part(self.refusal, 56) | part(self.flaw.why, 48) | part(self.flaw.byte, 24) | part(self.number, 0)
+    }
 }
 
 /// A reader of scripts: takes a text and the words lent for events.
@@ -41,15 +71,32 @@ pub enum Outcome {
     TicksDiffer,
     /// Two events have the same tick and are not the same, so that their order shows.
     TicksEqual,
-    Refused(u32),
+    /// The refusal, and for 4 and 7 why, else 0.
+    Refused(u32, u32),
 }
 
 /// How often each outcome was met.
 #[derive(Default)]
 pub struct Tally {
     accepted: [usize; 3],
-    refused: [usize; 8],
+    refused: [usize; REFUSED.len()],
 }
+
+/// Each refusal, with each reason where it has one.
+const REFUSED: [(u32, u32); 12] = [
+    (1, 0),
+    (2, 0),
+    (3, 0),
+    (4, 1),
+    (4, 2),
+    (4, 3),
+    (5, 0),
+    (6, 0),
+    (7, 1),
+    (7, 2),
+    (7, 3),
+    (8, 0),
+];
 
 /// Puts a case to a reader. The answer is the expected outcome, if the reader's reply and every word are as
 /// expected.
@@ -91,19 +138,23 @@ pub fn write(answer: &Answer, words: &mut [u64]) -> Reply {
             for (event, words) in events.iter().zip(words.chunks_exact_mut(EVENT_WORDS)) {
                 words.copy_from_slice(&[event.tick, event.fault, event.id]);
             }
-            let number = events.len() as u32;
-            Reply { refusal: 0, number }
+            Reply {
+                refusal: 0,
+                number: events.len() as u32,
+                flaw: Flaw::default(),
+            }
         }
-        Answer::Refused { number, line } => Reply {
+        Answer::Refused { number, line, flaw } => Reply {
             refusal: *number,
             number: *line,
+            flaw: *flaw,
         },
     }
 }
 
 pub fn outcome(answer: &Answer) -> Outcome {
     match answer {
-        Answer::Refused { number, .. } => Outcome::Refused(*number),
+        Answer::Refused { number, flaw, .. } => Outcome::Refused(*number, flaw.why),
         Answer::Accepted(events) if events.is_empty() => Outcome::NoEvent,
         Answer::Accepted(events) if events.windows(2).any(order_shows) => Outcome::TicksEqual,
         Answer::Accepted(_) => Outcome::TicksDiffer,
@@ -140,7 +191,10 @@ impl Tally {
             Outcome::NoEvent => &mut self.accepted[0],
             Outcome::TicksDiffer => &mut self.accepted[1],
             Outcome::TicksEqual => &mut self.accepted[2],
-            Outcome::Refused(number) => &mut self.refused[number as usize - 1],
+            Outcome::Refused(number, why) => {
+                let place = REFUSED.iter().position(|&known| known == (number, why));
+                &mut self.refused[place.expect("a refusal of the rules, with its reason")]
+            }
         }
     }
 }
@@ -155,8 +209,11 @@ impl fmt::Display for Tally {
         for (what, met) in accepted.iter().zip(self.accepted) {
             writeln!(f, "{met:>9}  accepted: {what}")?;
         }
-        for (place, met) in self.refused.iter().enumerate() {
-            writeln!(f, "{met:>9}  refusal {}", place + 1)?;
+        for (&(number, why), met) in REFUSED.iter().zip(self.refused) {
+            match why {
+                0 => writeln!(f, "{met:>9}  refusal {number}")?,
+                why => writeln!(f, "{met:>9}  refusal {number}, why {why}")?,
+            }
         }
         Ok(())
     }
@@ -187,9 +244,14 @@ impl fmt::Display for Difference {
 
 impl Difference {
     fn told(&self, seen: &Seen) -> String {
-        let Reply { refusal, number } = seen.reply;
+        let Reply {
+            refusal,
+            number,
+            flaw,
+        } = seen.reply;
         if refusal != 0 {
-            return format!("refusal {refusal} at line {number}");
+            let Flaw { why, byte } = flaw;
+            return format!("refusal {refusal} at line {number}, why {why}, byte {byte}");
         }
         let lent = &seen.words[..self.case.room];
         let events: Vec<String> = lent

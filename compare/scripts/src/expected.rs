@@ -1,8 +1,9 @@
 //! The answer that a script must get, taken from runs of the Rust.
 //!
-//! The Rust decides every accepted script and refusals 3 to 7. Refusals 1, 2 and 8 are our own (RULES, "Fault
+//! The Rust decides every accepted script and refusals 3 to 7; what is wrong with a number is a plain evaluation of the rules on its word. Refusals 1, 2 and 8 are our own (RULES, "Fault
 //! scripts"): 1 and 2 come before any run, and 8 asks the Rust how many events a beginning of the text holds.
 
+use crate::numbers::{flaw, Flaw};
 use oracle::script::{run, Event};
 
 /// The longest text that is read, in bytes.
@@ -18,19 +19,24 @@ pub enum Answer {
     Refused {
         number: u32,
         line: u32,
+        /// What is wrong with the number, for 4 and 7; zeros otherwise.
+        flaw: Flaw,
     },
+}
+
+/// A refusal that is not about a number.
+pub fn refused(number: u32, line: u32) -> Answer {
+    let flaw = Flaw::default();
+    Answer::Refused { number, line, flaw }
 }
 
 /// The answer for a text where `room` words are lent for events.
 pub fn answer(text: &[u8], room: usize) -> Answer {
     if text.len() > LONGEST_TEXT {
-        return Answer::Refused { number: 1, line: 0 };
+        return refused(1, 0);
     }
     if let Some(place) = text.iter().position(|&byte| byte > 127) {
-        return Answer::Refused {
-            number: 2,
-            line: line_of(text, place),
-        };
+        return refused(2, line_of(text, place));
     }
     let text = std::str::from_utf8(text).expect("bytes up to 127 are UTF-8");
     let events = room / EVENT_WORDS;
@@ -38,10 +44,14 @@ pub fn answer(text: &[u8], room: usize) -> Answer {
     let accepted = beginnings.partition_point(|beginning| fits(beginning, events));
     match beginnings.get(accepted) {
         None => Answer::Accepted(run(text).expect("the longest beginning is the text")),
-        Some(beginning) => Answer::Refused {
-            number: refusal(text, beginning, accepted + 1),
-            line: number(accepted + 1),
-        },
+        Some(beginning) => {
+            let refusal = refusal(text, beginning, accepted + 1);
+            Answer::Refused {
+                number: refusal,
+                line: number(accepted + 1),
+                flaw: flaw_of(beginning, refusal),
+            }
+        }
     }
 }
 
@@ -77,6 +87,20 @@ fn refusal(text: &str, beginning: &str, line: usize) -> u32 {
             complaint.number
         }
     }
+}
+
+/// What is wrong with the number for which the last line of a beginning is refused: its first word's for 4, its third word's for 7.
+fn flaw_of(beginning: &str, refusal: u32) -> Flaw {
+    let place = match refusal {
+        4 => 0,
+        7 => 2,
+        _ => return Flaw::default(),
+    };
+    let line = beginning.split_inclusive('\n').last().unwrap_or("");
+    let code = line.split('#').next().unwrap_or("");
+    let word = code.split_whitespace().nth(place);
+    let word = word.expect("a line with a bad number has it");
+    flaw(word.as_bytes()).expect("the Rust refuses no number of the rules")
 }
 
 /// Whether the Rust accepts a beginning and finds no more than `events` events in it. What holds for a
@@ -126,7 +150,13 @@ mod tests {
                 }
                 lines
             }
-            Answer::Refused { number, line } => format!("refusal={number}\nline={line}\n"),
+            Answer::Refused { number, line, flaw } if flaw.why == 0 => {
+                format!("refusal={number}\nline={line}\n")
+            }
+            Answer::Refused { number, line, flaw } => {
+                let Flaw { why, byte } = flaw;
+                format!("refusal={number}\nline={line}\nwhy={why}\nbyte={byte}\n")
+            }
         }
     }
 
@@ -158,18 +188,18 @@ mod tests {
     #[test]
     fn each_refusal_of_the_rust_has_its_line() {
         assert_eq!(told(b"\n5\n", 3), "refusal=3\nline=2\n");
-        assert_eq!(told(b"#\n\n1,500 heal-all", 3), "refusal=4\nline=3\n");
+        assert_eq!(told(b"#\n\n1,500 heal-all", 3), "refusal=4\nline=3\nwhy=2\nbyte=1\n");
         assert_eq!(told(b"1 heal 1\n5 foo\n5", 3), "refusal=5\nline=2\n");
         assert_eq!(told(b"\r\n\r\n5 crash\n", 3), "refusal=6\nline=3\n");
         assert_eq!(
-            told(b"5 crash 18446744073709551616", 3),
-            "refusal=7\nline=1\n"
+            told(b"5 crash 18446744073709551616x", 3),
+            "refusal=7\nline=1\nwhy=3\nbyte=19\n"
         );
     }
 
     #[test]
     fn room_counts_in_whole_events_and_is_tested_last_on_its_line() {
-        assert_eq!(told(b"x y", 0), "refusal=4\nline=1\n");
+        assert_eq!(told(b"x y", 0), "refusal=4\nline=1\nwhy=2\nbyte=0\n");
         assert_eq!(told(b"1 heal-all", 2), "refusal=8\nline=1\n");
         assert_eq!(told(b"1 heal-all", 5), "events=1\ntick=1\nfault=heal-all\n");
         assert_eq!(

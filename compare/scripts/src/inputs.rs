@@ -20,6 +20,10 @@ const LONGEST_OF_BYTES: usize = 5;
 const PIECES: [&str; 8] = ["1", "+", " ", "\n", "#", "\r", "crash", "heal-all"];
 const LONGEST_OF_PIECES: usize = 6;
 
+/// The bytes of words that are nearly numbers: all words of a few of them are compared, as a tick and as an id.
+const NUMERAL_BYTES: [&str; 7] = ["+", "-", "0", "1", "9", ",", "x"];
+const LONGEST_NUMERAL: usize = 5;
+
 /// The rooms, in words, that a script chosen by hand is compared with.
 const ROOMS_OF_CORNERS: [usize; 7] = [0, 2, 3, 5, 6, 18, 40];
 
@@ -35,6 +39,16 @@ pub fn cases(seed: u64, count: usize) -> impl Iterator<Item = Case> {
         text,
         room: rooms.below(4 * EVENT_WORDS),
     });
+    let numerals = all_texts(&NUMERAL_BYTES, LONGEST_NUMERAL).skip(1).flat_map(|word| {
+        [
+            [&word[..], b" heal-all"].concat(),
+            [b"1 heal ", &word[..]].concat(),
+        ]
+        .map(|text| Case {
+            text,
+            room: EVENT_WORDS,
+        })
+    });
     let corners = corners::all().flat_map(|text| {
         ROOMS_OF_CORNERS.iter().map(move |&room| Case {
             text: text.clone(),
@@ -42,6 +56,7 @@ pub fn cases(seed: u64, count: usize) -> impl Iterator<Item = Case> {
         })
     });
     short
+        .chain(numerals)
         .chain(corners)
         .chain((0..count).map(move |_| random_case(&mut draws)))
 }
@@ -148,16 +163,26 @@ fn damaged_script(draws: &mut Draws) -> Vec<u8> {
 
 /// One line about one number, at the edge of what is read.
 fn one_number(draws: &mut Draws) -> String {
-    let number = if draws.once_in(3) {
-        odd_number(draws)
-    } else {
-        edge_number(draws)
+    let number = match draws.below(4) {
+        0 => odd_number(draws),
+        1 => {
+            let number = edge_number(draws);
+            stray_in(draws, number)
+        },
+        _ => edge_number(draws),
     };
     match draws.below(3) {
         0 => format!("{number} heal-all"),
         1 => format!("5 {} {number}\n", good_name(draws)),
         _ => format!("{number} {} {number}", good_name(draws)),
     }
+}
+
+/// A number with a byte put in somewhere, before or behind the place at which it may be too large.
+fn stray_in(draws: &mut Draws, number: String) -> String {
+    let place = draws.below(number.len() + 1);
+    let byte = *draws.pick(&[&",", &"x", &"+", &"-", &"0", &"9"]);
+    format!("{}{byte}{}", &number[..place], &number[place..])
 }
 
 /// Bytes that mean something in a script, in any order.

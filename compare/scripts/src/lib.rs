@@ -5,6 +5,7 @@ pub mod comparison;
 pub mod corners;
 pub mod expected;
 pub mod inputs;
+pub mod numbers;
 pub mod planted;
 pub mod rules;
 pub mod sample;

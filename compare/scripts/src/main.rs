@@ -14,7 +14,7 @@ use std::env;
 use std::process::ExitCode;
 
 const USAGE: &str =
-    "usage: scripts [--seed N] [--count N] [--plant comma|order|line|white|word] [--sample FILE]";
+    "usage: scripts [--seed N] [--count N] [--plant comma|order|line|white|word|byte|why|id] [--sample FILE]";
 
 struct Arguments {
     seed: u64,
@@ -59,11 +59,7 @@ fn main() -> ExitCode {
 }
 
 fn ours(text: &[u8], words: &mut [u64]) -> Reply {
-    let packed = raw::parse_script(text, words);
-    Reply {
-        refusal: (packed >> 32) as u32,
-        number: packed as u32,
-    }
+    Reply::of_word(raw::parse_script(text, words))
 }
 
 fn arguments() -> Option<Arguments> {

@@ -2,6 +2,7 @@
 
 use crate::comparison::{Reader, Reply};
 use crate::expected::EVENT_WORDS;
+use crate::numbers::Flaw;
 
 #[derive(Clone, Copy, Debug, PartialEq, Eq)]
 pub enum Plant {
@@ -15,14 +16,23 @@ pub enum Plant {
     White,
     /// A refusal clears the first word lent.
     Word,
+    /// The byte of a bad number counts from 1.
+    Byte,
+    /// A number too large is told as a stray byte.
+    Why,
+    /// The reason of a bad id is dropped.
+    Id,
 }
 
-pub const ALL: [(&str, Plant); 5] = [
+pub const ALL: [(&str, Plant); 8] = [
     ("comma", Plant::Comma),
     ("order", Plant::Order),
     ("line", Plant::Line),
     ("white", Plant::White),
     ("word", Plant::Word),
+    ("byte", Plant::Byte),
+    ("why", Plant::Why),
+    ("id", Plant::Id),
 ];
 
 /// The reader with a fault planted, or as it is.
@@ -63,6 +73,9 @@ fn spoiled(plant: Option<Plant>, mut reply: Reply, words: &mut [u64]) -> Reply {
         Some(Plant::Word) if reply.refusal != 0 => {
             words.iter_mut().take(1).for_each(|word| *word = 0)
         }
+        Some(Plant::Byte) if reply.flaw.why != 0 => reply.flaw.byte += 1,
+        Some(Plant::Why) if reply.flaw.why == 3 => reply.flaw.why = 2,
+        Some(Plant::Id) if reply.refusal == 7 => reply.flaw = Flaw::default(),
         _ => {}
     }
     reply

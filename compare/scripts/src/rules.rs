@@ -1,6 +1,7 @@
 //! Scripts about each refusal and each limit, with answers written from the rules (docs/RULES.md), and by no program.
 
-use crate::expected::Answer;
+use crate::expected::{self, Answer};
+use crate::numbers::Flaw;
 use oracle::script::{Event, FAULT_NAMES};
 
 pub type Ruled = (Vec<u8>, Answer);
@@ -22,7 +23,14 @@ fn accepted(text: impl AsRef<[u8]>, events: &[(u64, &str, u64)]) -> Ruled {
 }
 
 fn refused(text: impl AsRef<[u8]>, number: u32, line: u32) -> Ruled {
-    (text.as_ref().to_vec(), Answer::Refused { number, line })
+    (text.as_ref().to_vec(), expected::refused(number, line))
+}
+
+/// A script with a bad number: why, and at which byte of its word.
+fn bad(text: impl AsRef<[u8]>, number: u32, line: u32, why: u32, byte: u32) -> Ruled {
+    let flaw = Flaw { why, byte };
+    let answer = Answer::Refused { number, line, flaw };
+    (text.as_ref().to_vec(), answer)
 }
 
 pub fn cases() -> Vec<Ruled> {
@@ -126,32 +134,51 @@ fn texts() -> Vec<Ruled> {
     ]
 }
 
+/// Words that are no number: why, and at which byte. The earliest reason wins; leading zeros and the sign are bytes like others.
+const BAD_NUMBERS: [(&str, u32, u32); 27] = [
+    ("+", 1, 1),
+    ("1,500", 2, 1),
+    ("1.5", 2, 1),
+    ("-0", 2, 0),
+    ("-1", 2, 0),
+    ("x", 2, 0),
+    ("++1", 2, 1),
+    ("+-1", 2, 1),
+    ("+x", 2, 1),
+    ("1+", 2, 1),
+    ("5x", 2, 1),
+    ("x5", 2, 0),
+    ("0x5", 2, 1),
+    ("00,1", 2, 2),
+    ("5\x7f", 2, 1),
+    ("\x1c5", 2, 0),
+    ("18446744073709551615x", 2, 20),
+    ("1844674407370955161x", 2, 19),
+    ("18446744073709551616", 3, 19),
+    ("18446744073709551616x", 3, 19),
+    ("18446744073709551620", 3, 19),
+    ("99999999999999999999", 3, 19),
+    ("184467440737095516150", 3, 20),
+    ("100000000000000000000000", 3, 20),
+    ("+18446744073709551616", 3, 20),
+    ("0018446744073709551616,", 3, 21),
+    ("+000000018446744073709551616", 3, 27),
+];
+
 /// 3 to 7.
 fn faulty_lines() -> Vec<Ruled> {
     let mut cases = vec![
         refused("\n\n5\n", 3, 3),
         refused("x # y\n", 3, 1),
         refused("1,500", 3, 1),
-        refused("1,500 foo\n", 4, 1),
+        bad("1,500 foo\n", 4, 1, 2, 1),
         // The first faulty line answers.
         refused("5 crash 1\n6 x\n7\n", 5, 2),
     ];
-    for tick in [
-        "1,500",
-        "1.5",
-        "-0",
-        "+",
-        "++1",
-        "+-1",
-        "5x",
-        "x5",
-        "0x5",
-        "18446744073709551616",
-        "99999999999999999999",
-        "5\x7f",
-        "\x1c5",
-    ] {
-        cases.push(refused(format!("\n{tick} crash 1\n"), 4, 2));
+    for (word, why, byte) in BAD_NUMBERS {
+        cases.push(bad(format!("\n{word} crash 1\n"), 4, 2, why, byte));
+        cases.push(bad(format!("5 crash {word}\n"), 7, 1, why, byte));
+        cases.push(bad(format!("{word} x 1,500\n"), 4, 1, why, byte));
     }
     // Unknown faults, before a missing id.
     for name in [
@@ -171,9 +198,6 @@ fn faulty_lines() -> Vec<Ruled> {
     for name in ["crash", "restart", "reboot", "partition", "heal"] {
         cases.push(refused(format!("6 heal 1\n5 {name} # 1\n"), 6, 2));
     }
-    for id in ["1,500", "x", "-1", "+", "1.5", "18446744073709551616"] {
-        cases.push(refused(format!("5 crash {id}\n"), 7, 1));
-    }
     cases
 }
 
@@ -190,7 +214,7 @@ fn many_events() -> Vec<Ruled> {
         accepted(&text, &rising),
         refused(format!("{text}5 crash 1\n"), 8, 2_049),
         refused(format!("{text}\n# more\n5 heal-all"), 8, 2_051),
-        refused(format!("{text}5 crash x\n"), 7, 2_049),
+        bad(format!("{text}5 crash 1x\n"), 7, 2_049, 2, 1),
     ]
 }
 

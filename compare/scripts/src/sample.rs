@@ -21,15 +21,19 @@ const LONGEST: usize = 300;
 const SEED: u64 = 2_026;
 
 /// How many cases of each outcome the random scripts fill up to, after those chosen by hand.
-const WANTED: [(Outcome, usize); 8] = [
+const WANTED: [(Outcome, usize); 12] = [
     (Outcome::NoEvent, 20),
     (Outcome::TicksDiffer, 60),
     (Outcome::TicksEqual, 40),
-    (Outcome::Refused(3), 20),
-    (Outcome::Refused(4), 40),
-    (Outcome::Refused(5), 30),
-    (Outcome::Refused(6), 20),
-    (Outcome::Refused(7), 30),
+    (Outcome::Refused(3, 0), 20),
+    (Outcome::Refused(4, 1), 8),
+    (Outcome::Refused(4, 2), 40),
+    (Outcome::Refused(4, 3), 15),
+    (Outcome::Refused(5, 0), 30),
+    (Outcome::Refused(6, 0), 20),
+    (Outcome::Refused(7, 1), 8),
+    (Outcome::Refused(7, 2), 30),
+    (Outcome::Refused(7, 3), 15),
 ];
 
 /// Short rooms, in words, for scripts chosen by hand.
@@ -40,8 +44,11 @@ fn case(text: &[u8], room: usize, answer: &Answer) -> Case {
     let bytes: Vec<u64> = text.iter().map(|&byte| u64::from(byte)).collect();
     let mut events = vec![PATTERN; room];
     let reply = write(answer, &mut events);
-    let word = u64::from(reply.refusal) << 32 | u64::from(reply.number);
-    Case::new(Call::ParseScript, &[text.len() as u64, room as u64], word)
+    Case::new(
+        Call::ParseScript,
+        &[text.len() as u64, room as u64],
+        reply.word(),
+    )
         .put(Row::Text, 0, &bytes)
         .filled(Row::Events, PATTERN)
         .expects(Row::Events, 0, &events)

@@ -30,7 +30,8 @@ ghost use Rattle.script_packed.specs.Packing.{answerWord};
 // ---- Fault scripts
 
 // Reads a fault script into the lent words, three for each event: tick, fault and id. Answers how many
-// events there are or, for a refusal, its number times 2^32 and its line.
+// events there are or, for a refusal, its number times 2^56, why times 2^48 and byte times 2^24 of a tick or an
+// id that is no number (0 and 0 for any other), and its line.
 #[no_mangle]
 pub extern "C" fn bellmantle_parse_script(text: &[u8], events: &mut [u64]) -> u64
     ensures answer { λ r. ⌜ r ≡ answerWord (scriptAnswer (now (text .entry)) (length (now (events .entry)))) ⌝ }

@@ -1,20 +1,22 @@
 -- A number's decimal digits: how many there are, that none of them is needless, and that they say the number again.
 -- Assumes nothing.
-use mathlib.Core.Bool.{Bool, true, false, cond, _&&_}
-use mathlib.Core.List.{List, [], _∷_, _++_, append-assoc}
-use mathlib.Core.Path.{_≡_, refl, sym, ap, _∙_}
+use mathlib.Core.Bool.{Bool, true, false, cond}
+use mathlib.Core.List.{List, _++_, append-assoc}
+use mathlib.Core.Logic.{inl}
+use mathlib.Core.Path.{_≡_, refl, sym, ap, subst, _∙_}
 use Prim.Native.Nat.{ℕ, zero, suc, _+_, _-_, _/_, _%_, _^_, _≤_, _<_}
 use native.Mathlib.Nat.{pow-suc, pow-succ', div-lt-iff-lt-mul, le-div-iff-mul-le, div-div-eq-div-mul, mod-eq-of-lt, zero-lt-suc}
 use native.Mathlib.Omega.{arith}
-use borrow.Author.Tests.{lt-ltb, le-ltb, le-leb, ltb-true, ltb-false, ne-eqb}
+use borrow.Author.Tests.{lt-ltb, le-ltb, le-leb, ltb-true, ltb-false}
 use lib.Arith.{mod-mul}
-use lib.Dec.{ltb, lit<}
+use lib.Dec.{T, ltb, lit<}
 use lib.ListN.{length, take, drop, set, length-take, length-drop, length-append, take-append-drop}
 use lib.Seq.{take-suc, set-at, length-take-le}
 use Rattle.numeral.specs.Digits.{isDigit, allDigits, valueOf, lastDigits}
-use Rattle.numeral.specs.Reading.{unsigned, isNumber, inDigits, numberOf}
+use Rattle.numeral.specs.Reading.{numberOf}
 use Rattle.numeral.specs.Writing.{digitCount, decimal}
 use Rattle.numeral.specs.declared.Number.the-variants.{Value}
+use Rattle.numeral.proofs.Laws.{complete}
 
 pub length-lastDigits : (k n : ℕ) → length (lastDigits k n) ≡ k
 unfolding lastDigits
@@ -129,19 +131,10 @@ value-lastDigits (suc k) n =
     let z : 48 + d - 48 ≡ d = omega arith in
     rw (z, length-lastDigits k n, value-lastDigits k n, pow-succ' 10 k) (sym (mod-mul n {m = 10} {c = 10 ^ k} (lit< tt) (ten-pow-pos k)))
 
--- what begins with a digit has no sign
-plus-no-digit : (b : ℕ) (t : Bool) → (isDigit b && t) ≡ true → b ≡ 43 → ⊥
-unfolding isDigit
-plus-no-digit b t h q = let z : false ≡ true = rw q at h in let y : _≡_ {A = ℕ} 0 1 = cc in omega arith
-
-pub no-sign : (w : List ℕ) → allDigits w ≡ true → unsigned w ≡ w
-unfolding unsigned allDigits
-no-sign [] h = refl
-no-sign (b ∷ bs) h = rw (ne-eqb b 43 (plus-no-digit b (allDigits bs) h))
-
 pub reads-back : (n : ℕ) → n < 2 ^ 64 → numberOf (decimal n) ≡ Value n
-unfolding numberOf inDigits isNumber decimal
+unfolding decimal
 reads-back n h =
     let k = digitCount 19 n in
     let v : valueOf (lastDigits k n) ≡ n = value-lastDigits k n ∙ mod-eq-of-lt (count-covers 19 n (omega arith)) in
-    rw (no-sign (lastDigits k n) (all-digits k n), length-lastDigits k n, lt-ltb 0 k (count-pos 19 n), all-digits k n, v, lt-ltb n (2 ^ 64) h)
+    let some : 0 < length (lastDigits k n) = rw (length-lastDigits k n) (count-pos 19 n) in
+    complete (lastDigits k n) n (inl (record { some = some; digits = subst T (sym (all-digits k n)) tt; value = v; fits = h }))

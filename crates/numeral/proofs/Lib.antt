@@ -1,4 +1,5 @@
 -- Laws that belong to no one function.
-pub mod Onward
-pub mod Decimal
+pub mod Beginnings
+pub mod Stopping
 pub mod Laws
+pub mod Decimal

@@ -1,17 +1,34 @@
 // A number from the bytes of a word, where the Rust has u64's FromStr, and a number to plain decimal
-// bytes. No input is guessed at: `1,500` is bad, and is neither 1500 nor 1.
+// bytes. No input is guessed at: `1,500` is bad at its comma, and is neither 1500 nor 1.
 ghost use mathlib.Core.Path.{_≡_};
 ghost use Prim.Native.Nat.{_+_, _≤_, _<_};
-ghost use lib.ListN.{length, drop};
+ghost use lib.ListN.{length};
 ghost use Rattle.numeral.specs.Digits.{lastDigits};
-ghost use Rattle.numeral.specs.Reading.{numberOf, inDigits, withDigit};
+ghost use Rattle.numeral.specs.Reading.{whyNumber, signBytes, numberOf, withDigit};
 ghost use Rattle.basis.specs.Basis.{laid};
 ghost use Rattle.numeral.specs.Writing.{digitCount, writtenOf, outOf};
 
-// What a word says.
+// Why a word is no number.
+pub enum Why {
+    // It ends before any digit.
+    NoDigit,
+    // A byte is no digit.
+    StrayByte,
+    // A digit makes it 2^64 or more.
+    TooLarge,
+}
+
+// What a word says: a number, or why it is none and at which place, counting its bytes from 0. A digit that
+// is missing is missing at the word's end.
 pub enum Number {
     Value(u64),
-    Bad,
+    Bad(Why, usize),
+}
+
+// A number with one more byte behind it, or why there is none.
+enum Step {
+    Next(u64),
+    Stopped(Why),
 }
 
 // How writing a number ended: with the place after its last digit, or with nothing written.
@@ -20,57 +37,70 @@ pub enum Written {
     NoRoom,
 }
 
-// The number that a word says: an optional single `+`, then one or more digits, at most 2^64 - 1.
+// A reason's number.
+pub fn why_number(why: Why) -> u64
+    ensures { λ r. ⌜ r ≡ whyNumber why ⌝ }
+{
+    match why {
+        Why::NoDigit => 1,
+        Why::StrayByte => 2,
+        Why::TooLarge => 3,
+    }
+}
+
+// The number that a word says: an optional single `+`, then one or more digits, at most 2^64 - 1. The first
+// byte with which no number can go on is told.
 pub fn read(word: &[u8]) -> Number
     ensures { λ r. ⌜ r ≡ numberOf (now (word .entry)) ⌝ }
 {
-    if word.len() == 0 {
-        return Number::Bad;
-    }
-    if word[0] == b'+' {
-        return read_digits(word, 1);
-    }
-    read_digits(word, 0)
-}
-
-// The number of the digits from a place of the word to its end.
-fn read_digits(word: &[u8], from: usize) -> Number
-    ensures { λ r. ⌜ r ≡ inDigits (drop from (now (word .entry))) ⌝ }
-{
+    let from = sign_bytes(word);
     if word.len() <= from {
-        return Number::Bad;
+        return Number::Bad(Why::NoDigit, from);
     }
     let mut value: u64 = 0;
     let mut i = from;
     while i < word.len() {
-        let Number::Value(next) = with_digit(value, word[i]) else {
-            return Number::Bad;
-        };
-        value = next;
+        match with_digit(value, word[i]) {
+            Step::Stopped(why) => return Number::Bad(why, i),
+            Step::Next(next) => value = next,
+        }
         i += 1;
     }
     Number::Value(value)
 }
 
+// How many bytes the `+` takes that a word may begin with.
+fn sign_bytes(word: &[u8]) -> usize
+    ensures { λ r. ⌜ r ≡ signBytes (now (word .entry)) ⌝ }
+{
+    if word.len() == 0 {
+        return 0;
+    }
+    if word[0] == b'+' {
+        return 1;
+    }
+    0
+}
+
 // A number with one more digit behind it. The tests come before the sums, so that none wraps.
-fn with_digit(value: u64, byte: u8) -> Number
+fn with_digit(value: u64, byte: u8) -> Step
     ensures { λ r. ⌜ r ≡ withDigit value byte ⌝ }
 {
     if byte < b'0' {
-        return Number::Bad; // the comma of `1,500` among others
+        return Step::Stopped(Why::StrayByte); // the comma of `1,500` among others
     }
     if b'9' < byte {
-        return Number::Bad;
+        return Step::Stopped(Why::StrayByte);
     }
     if 1844674407370955161 < value {
-        return Number::Bad;
+        return Step::Stopped(Why::TooLarge); // whatever stands behind it
     }
     let digit = (byte - b'0') as u64;
     let tens = value * 10;
     if 18446744073709551615 - tens < digit {
-        return Number::Bad;
+        return Step::Stopped(Why::TooLarge);
     }
-    Number::Value(tens + digit)
+    Step::Next(tens + digit)
 }
 
 // Writes n as plain decimal bytes at a place of `out`, or nothing where they do not fit.

@@ -91,7 +91,10 @@ fn outcome(answer: u64) -> u64 {
     1
 }
 
-// Runs a call and counts it. Its answer is how many events there are, or has the refusal's number above its line.
+// Where a refusal's number begins in an answer: below it stand why and where a number went bad, and the line.
+const NUMBER_BIT: u64 = 56;
+
+// Runs a call and counts it. Its answer is how many events there are, or has the refusal's number above the rest.
 fn call(
     n: [u64; samples_list::NUMBERS],
     text: &[u8],
@@ -104,7 +107,7 @@ fn call(
     let answer = bellmantle::bellmantle_parse_script(&text[..bytes], &mut events[..room]);
     let kept = samples_list::agrees(expected, BYTES, events);
     let same = kept & (answer == n[1]);
-    samples_list::met(counts, 0, same, answer >> 32, outcome(answer));
+    samples_list::met(counts, 0, same, answer >> NUMBER_BIT, outcome(answer));
 }
 
 // ---- The steps

@@ -3,26 +3,29 @@
 use mathlib.Core.Bool.{Bool, true, false, cond}
 use mathlib.Core.List.{List, [], _∷_}
 use mathlib.Core.Path.{_≡_, refl}
-use Prim.Native.Nat.{ℕ, suc, _+_, _/_, _≤_}
+use Prim.Native.Nat.{ℕ, suc, _+_, _*_, _/_, _≤_}
 use native.Mathlib.Omega.{arith}
+use borrow.Author.Tests.{ltb-false}
 use lib.Dec.{ltb, eqb}
-use lib.ListN.{length, length-map}
+use lib.ListN.{length}
 use Rattle.numeral.specs.Digits.{isDigit, allDigits, valueOf}
-use Rattle.numeral.specs.Reading.{unsigned, isNumber, inDigits, numberOf}
+use Rattle.numeral.specs.Reading.{unsigned, beginsNumber, stopFrom, stop, numberOf}
+use Rattle.numeral.specs.declared.Why.the-variants.{StrayByte}
 use Rattle.order.specs.Order.{eventWords, inserted, sorted, Rising, Permuted, ofTick}
 use Rattle.order.proofs.Laws.{sorted-rising, sorted-permuted, sorted-stable, length-sorted}
 use Rattle.script_words.specs.Words.{isSpace, notSpace, until, cutAt, joined, linesOf, stripFront, keptBefore, stripEnd, strip, begins}
 use Rattle.script_words.specs.Words as words
 use Rattle.script.specs.Faults.{same, namedBy}
-use Rattle.script.specs.Lines.{ofWords, lineSays}
+use Rattle.script.specs.Lines.{flawAt, ofWords, lineSays}
 use Rattle.script.specs.Scripts.{longest, strayFrom, strayLine, eventsOf, linesJudged, said, scriptAnswer, sortedEvents, scriptWords}
-use Rattle.script.specs.declared.line.Line.{Line}
-use Rattle.script.specs.declared.line.Line.the-variants.{Blank, Event, Faulty}
 use Rattle.script.specs.declared.line.Refusal.{Refusal}
-use Rattle.script.specs.declared.line.Refusal.the-variants.{TooLong, NotAscii, BadTick, BadId, NoRoom}
+use Rattle.script.specs.declared.line.Refusal.the-variants.{TooLong, NotAscii, BadTick, BadId}
 use Rattle.script.specs.declared.Script.{Script}
 use Rattle.script.specs.declared.Script.the-variants.{Events, Refused}
 use Rattle.script.proofs.Judging.{accepted}
+use Rattle.script.proofs.Most.{at-most}
+use Rattle.script.proofs.Stray.{stray-is-first}
+use Rattle.script.proofs.FirstFault.{TextStops, long, stray, fault, text-stops}
 
 -- no event has an earlier tick than one before it
 pub events-rising : (text : List ℕ) → Rising (sortedEvents text)
@@ -55,7 +58,6 @@ events-counted text words m e =
     let a = accepted (words / 3) 1 0 m (said text) j in
     (omega (arith, a .0, length-sorted (eventsOf (said text))), a .1 (omega arith))
 
--- a refusal's line is one of the text's, or 0
 stray-bound : (n : ℕ) (text : List ℕ) → strayFrom n text ≤ n + length text
 unfolding strayFrom
 stray-bound n [] = omega arith
@@ -83,32 +85,27 @@ lines-bound (b ∷ bs) = by-byte (eqb b 10) (lines-bound bs)
     by-byte true h = omega arith
     by-byte false h = some-line b (linesOf bs) (length bs) h
 
-the-line : {r q : Refusal} {m n : ℕ} → Refused r m ≡ Refused q n → m ≡ n
-the-line e = cc
-
-no-refusal : {A : Type 0} {r : Refusal} {m n : ℕ} → Events m ≡ Refused r n → A
-no-refusal e = let z : _≡_ {A = ℕ} 0 1 = cc in absurd (omega arith)
-
-judged-bound : (room n found : ℕ) (ls : List Line) (r : Refusal) (k : ℕ) → linesJudged room n found ls ≡ Refused r k → k ≤ n + length ls
-unfolding linesJudged
-judged-bound room n found [] r k e = no-refusal e
-judged-bound room n found (Blank ∷ ls) r k e = omega (arith, judged-bound room (suc n) found ls r k e)
-judged-bound room n found (Event t f ∷ ls) r k e = by-room (ltb found room) e (judged-bound room (suc n) (suc found) ls r k)
+-- no refusal tells a line past the last that a text can have
+pub refusal-line : (text : List ℕ) (words : ℕ) (r : Refusal) (n : ℕ) → scriptAnswer text words ≡ Refused r n
+    → (n ≤ suc (length text)) × (n ≤ suc longest)
+unfolding strayLine
+refusal-line text words r n e = by-stop (text-stops text words r n e)
   where
-    by-room : (b : Bool) → cond b (linesJudged room (suc n) (suc found) ls) (Refused NoRoom n) ≡ Refused r k
-        → (linesJudged room (suc n) (suc found) ls ≡ Refused r k → k ≤ suc n + length ls) → k ≤ n + suc (length ls)
-    by-room true q h = omega (arith, h q)
-    by-room false q h = omega (arith, the-line q)
-judged-bound room n found (Faulty q ∷ ls) r k e = omega (arith, the-line e)
+    by-stop : {q : Refusal} {k : ℕ} → TextStops text words q k → (k ≤ suc (length text)) × (k ≤ suc longest)
+    by-stop (long h) = (omega arith, omega arith)
+    by-stop (stray h f) = let b = stray-bound 1 text in let s = stray-is-first text in (omega arith, omega arith)
+    by-stop (fault h f s k) = let b = lines-bound text in (omega arith, omega arith)
 
-pub refusal-line : (text : List ℕ) (words : ℕ) (r : Refusal) (n : ℕ) → scriptAnswer text words ≡ Refused r n → n ≤ suc (suc (length text))
-unfolding scriptAnswer strayLine
-refusal-line text words r n e = by-test (ltb longest (length text)) (eqb (strayLine text) 0) e
+-- an accepted script has no more events than the longest text can hold
+pub events-most : (text : List ℕ) (words m : ℕ) → scriptAnswer text words ≡ Events m → 9 * m ≤ suc longest
+unfolding scriptAnswer sortedEvents
+events-most text words m e =
+    let n = events-counted text words m e in
+    omega (arith, n .0, length-sorted (eventsOf (said text)), at-most text, past-first (ltb longest (length text)) refl _ e)
   where
-    by-test : (p q : Bool) → cond p (Refused TooLong 0) (cond q (linesJudged (words / 3) 1 0 (said text)) (Refused NotAscii (strayLine text))) ≡ Refused r n → n ≤ suc (suc (length text))
-    by-test true q f = omega (arith, the-line f)
-    by-test false true f = omega (arith, judged-bound (words / 3) 1 0 (said text) r n f, length-map (linesOf text) lineSays, lines-bound text)
-    by-test false false f = omega (arith, the-line f, stray-bound 1 text)
+    past-first : (p : Bool) → ltb longest (length text) ≡ p → (j : Script) → cond p (Refused TooLong 0) j ≡ Events m → length text ≤ longest
+    past-first true q j f = absurd (no-events f)
+    past-first false q j f = ltb-false longest (length text) q
 
 -- `20 heal-all`, `5 crash 1 # east`
 sample : List ℕ
@@ -123,11 +120,12 @@ comma-tick = 49 ∷ 44 ∷ 53 ∷ 48 ∷ 48 ∷ 32 ∷ 99 ∷ 114 ∷ 97 ∷ 115
 comma-id : List ℕ
 comma-id = 53 ∷ 32 ∷ 99 ∷ 114 ∷ 97 ∷ 115 ∷ 104 ∷ 32 ∷ 49 ∷ 44 ∷ 53 ∷ 48 ∷ 48 ∷ 10 ∷ []
 
--- the sample has two events, the crash of plant 1 at tick 5 first, and what was lent behind them stays; a comma is a bad tick or a bad id
+-- the sample has two events, the crash of plant 1 at tick 5 first, and what was lent behind them stays; a comma is a bad tick or a bad id,
+-- at the second byte
 samples :
     (scriptAnswer sample 8 ≡ Events 2)
     × (scriptWords sample (9 ∷ 9 ∷ 9 ∷ 9 ∷ 9 ∷ 9 ∷ 9 ∷ 8 ∷ []) ≡ 5 ∷ 0 ∷ 1 ∷ 20 ∷ 5 ∷ 0 ∷ 9 ∷ 8 ∷ [])
-    × (scriptAnswer comma-tick 6 ≡ Refused BadTick 1)
-    × (scriptAnswer comma-id 6 ≡ Refused BadId 1)
-unfolding sample comma-tick comma-id scriptWords sortedEvents sorted inserted eventWords eventsOf scriptAnswer strayLine strayFrom linesJudged lineSays ofWords linesOf joined cutAt until strip stripEnd keptBefore stripFront isSpace notSpace begins words.lineWords namedBy same numberOf unsigned inDigits isNumber allDigits isDigit valueOf
+    × (scriptAnswer comma-tick 6 ≡ Refused (BadTick (flawAt StrayByte 1)) 1)
+    × (scriptAnswer comma-id 6 ≡ Refused (BadId (flawAt StrayByte 1)) 1)
+unfolding sample comma-tick comma-id scriptWords sortedEvents sorted inserted eventWords eventsOf scriptAnswer strayLine strayFrom linesJudged lineSays ofWords linesOf joined cutAt until strip stripEnd keptBefore stripFront isSpace notSpace begins words.lineWords namedBy same numberOf stop stopFrom beginsNumber unsigned allDigits isDigit valueOf
 samples = (refl, refl, refl, refl)

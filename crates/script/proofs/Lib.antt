@@ -1,5 +1,6 @@
 -- Laws that belong to no one function.
 pub mod Saying
+pub mod Reasons
 pub mod Judging
 pub mod Filling
 pub mod Most
@@ -7,3 +8,4 @@ pub mod Reading
 pub mod Laws
 pub mod Stray
 pub mod FirstFault
+pub mod Flaws

@@ -24,7 +24,7 @@ use Rattle.script.specs.declared.line.Line.{Line}
 use Rattle.script.specs.declared.line.Line.the-variants.{Event}
 
 -- the room that lists take with one byte between any two, and one behind the last
-unfoldable spread : List (List ℕ) → ℕ
+unfoldable pub spread : List (List ℕ) → ℕ
 spread [] = 0
 spread (l ∷ ls) = suc (length l) + spread ls
 
@@ -39,7 +39,7 @@ unfolding spread
 line-more true b bs h = omega arith
 line-more false b bs h = spread-joined b (linesOf bs) (omega arith) ∙ ap suc h
 
-spread-lines : (text : List ℕ) → spread (linesOf text) ≡ suc (length text)
+pub spread-lines : (text : List ℕ) → spread (linesOf text) ≡ suc (length text)
 unfolding linesOf spread
 spread-lines [] = omega arith
 spread-lines (b ∷ bs) = line-more (eqb b 10) b bs (spread-lines bs)
@@ -102,6 +102,10 @@ shorter l =
     let m = take (until (eqb 35) l) l in
     omega (arith, strip-front (stripEnd m), strip-end m, length-take (until (eqb 35) l) l)
 
+-- the words of a line, as the definition cuts them
+pub words-fit : (l : List ℕ) → spread (lineWords (strip (cutAt 35 l))) ≤ suc (length l)
+words-fit l = omega (arith, fitting (strip (cutAt 35 l)) .fits, shorter l)
+
 -- ---- the shortest words: a number has a byte, heal has four, heal-all has eight
 number-long : (w : List ℕ) (n : ℕ) → numberOf w ≡ Value n → 1 ≤ length w
 number-long w n e = by-sign (sound w n e)
@@ -148,7 +152,7 @@ abbrev Costs : Line → ℕ → Type 0
 Costs l n = 9 * length (lineEvents l) ≤ n
 
 with-number : (tick : ℕ) (fault : Fault) (w : List ℕ) (n : Number) (k : ℕ) → numberOf w ≡ n → (1 ≤ length w → 9 ≤ k) → Costs (withNumber tick fault n) k
-with-number tick fault w Bad k e h = omega arith
+with-number tick fault w (Bad why byte) k e h = omega arith
 with-number tick fault w (Value id) k e h = let x = h (number-long w id e) in omega arith
 
 with-words : (tick : ℕ) (fault : Fault) (ws : List (List ℕ)) (k : ℕ) → 7 ≤ k → Costs (withWords tick fault ws) (k + spread ws)
@@ -168,7 +172,7 @@ with-name tick Unknown name ws k e h = omega arith
 with-name tick (Is fault) name ws k e h = with-fault (needsId fault) tick fault name ws k refl (name-long name fault e) h
 
 with-tick : (n : Number) (tick name : List ℕ) (ws : List (List ℕ)) → numberOf tick ≡ n → Costs (withTick n name ws) (suc (length tick) + (suc (length name) + spread ws))
-with-tick Bad tick name ws e = omega arith
+with-tick (Bad why byte) tick name ws e = omega arith
 with-tick (Value t) tick name ws e = with-name t (namedBy name) name ws (suc (length tick)) refl (omega (arith, number-long tick t e))
 
 words-cost : (ws : List (List ℕ)) → Costs (ofWords ws) (spread ws)
@@ -179,9 +183,7 @@ words-cost (t ∷ name ∷ ws) = with-tick (numberOf t) t name ws refl
 
 line-costs : (l : List ℕ) → Costs (lineSays l) (suc (length l))
 unfolding lineSays
-line-costs l =
-    let m = strip (cutAt 35 l) in
-    omega (arith, words-cost (lineWords m), fitting m .fits, shorter l)
+line-costs l = omega (arith, words-cost (lineWords (strip (cutAt 35 l))), words-fit l)
 
 lines-cost : (ls : List (List ℕ)) → 9 * length (eventsOf (map lineSays ls)) ≤ spread ls
 unfolding eventsOf spread

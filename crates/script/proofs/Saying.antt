@@ -6,10 +6,11 @@ use Prim.Native.Nat.{ℕ}
 use native.Mathlib.Omega.{arith}
 use lib.ListN.{length}
 use Rattle.numeral.specs.Reading.{numberOf}
+use Rattle.numeral.specs.declared.Why.{Why}
 use Rattle.numeral.specs.declared.Number.{Number}
 use Rattle.numeral.specs.declared.Number.the-variants.{Value, Bad}
 use Rattle.script.specs.Faults.{namedBy, needsId}
-use Rattle.script.specs.Lines.{withNumber, withFault, withTick, ofWords, present}
+use Rattle.script.specs.Lines.{flawAt, withNumber, withFault, withTick, ofWords, present}
 use Rattle.script.specs.declared.fault.Fault.{Fault}
 use Rattle.script.specs.declared.fault.Named.the-variants.{Is, Unknown}
 use Rattle.script.specs.declared.line.Line.the-variants.{Blank, Event, Faulty}
@@ -53,8 +54,8 @@ two-words (b ∷ bs) [] ws h k = absurd (k refl)
 two-words (b ∷ bs) (x ∷ xs) ws h k = refl
 
 module _ (w v u : List ℕ) (ws : List (List ℕ)) (some : length w ≡ 0 → ⊥) (more : length v ≡ 0 → ⊥) where
-  pub bad-tick : numberOf w ≡ Bad → Faulty BadTick ≡ ofWords (led w (led v (led u ws)))
-  bad-tick e = ap (λ (n : Number). withTick n v (led u ws)) (sym e) ∙ two-words w v (led u ws) some more
+  pub bad-tick : (why : Why) (byte : ℕ) → numberOf w ≡ Bad why byte → Faulty (BadTick (flawAt why byte)) ≡ ofWords (led w (led v (led u ws)))
+  bad-tick why byte e = ap (λ (n : Number). withTick n v (led u ws)) (sym e) ∙ two-words w v (led u ws) some more
 
   pub unknown : (tick : ℕ) → numberOf w ≡ Value tick → namedBy v ≡ Unknown → Faulty UnknownFault ≡ ofWords (led w (led v (led u ws)))
   unknown tick e f = rw f at (ap (λ (n : Number). withTick n v (led u ws)) (sym e) ∙ two-words w v (led u ws) some more)

@@ -1,9 +1,11 @@
--- What one line of a fault script says (RULES, "Fault scripts"): cut at its first `#`, stripped and cut into words, it is blank, an event, or
--- faulty, the tests 3 to 7 in this order. Words after those that are needed are ignored. Assumes nothing.
+-- What one line of a fault script says (RULES, "Fault scripts"): cut at its first `#`, stripped and cut into words, it is blank, an event,
+-- or faulty, the tests 3 to 7 in this order; 4 and 7 carry why the number reader refused the word, and where. Words after those that are
+-- needed are ignored. Assumes nothing.
 use mathlib.Core.Bool.{cond}
 use mathlib.Core.List.{List, [], _∷_}
 use Prim.Native.Nat.{ℕ}
 use Rattle.numeral.specs.Reading.{numberOf}
+use Rattle.numeral.specs.declared.Why.{Why}
 use Rattle.numeral.specs.declared.Number.{Number}
 use Rattle.numeral.specs.declared.Number.the-variants.{Value, Bad}
 use Rattle.script_words.specs.Words.{cutAt, strip, lineWords}
@@ -11,13 +13,18 @@ use Rattle.script.specs.Faults.{namedBy, needsId, withId}
 use Rattle.script.specs.declared.fault.Fault.{Fault}
 use Rattle.script.specs.declared.fault.Named.{Named}
 use Rattle.script.specs.declared.fault.Named.the-variants.{Is, Unknown}
+use Rattle.script.specs.declared.line.Flaw.{Flaw}
 use Rattle.script.specs.declared.line.Line.{Line}
 use Rattle.script.specs.declared.line.Line.the-variants.{Blank, Event, Faulty}
 use Rattle.script.specs.declared.line.Refusal.the-variants.{OneWord, BadTick, UnknownFault, MissingId, BadId}
 
+-- why a word is no number, and at which byte of the word
+abbrev pub flawAt : Why → ℕ → Flaw
+flawAt why byte = record { why = why; byte = byte }
+
 -- the id, read as a number
 abbrev pub withNumber : ℕ → Fault → Number → Line
-withNumber tick fault Bad = Faulty BadId
+withNumber tick fault (Bad why byte) = Faulty (BadId (flawAt why byte))
 withNumber tick fault (Value id) = Event tick (withId fault id)
 
 -- a fault that needs an id and the words after its name
@@ -34,7 +41,7 @@ withName tick Unknown ws = Faulty UnknownFault
 withName tick (Is fault) ws = withFault tick fault ws
 
 abbrev pub withTick : Number → List ℕ → List (List ℕ) → Line
-withTick Bad name ws = Faulty BadTick
+withTick (Bad why byte) name ws = Faulty (BadTick (flawAt why byte))
 withTick (Value tick) name ws = withName tick (namedBy name) ws
 
 -- the first word is the tick, the second the fault

@@ -5,6 +5,7 @@ use mathlib.Core.List.{List, [], _∷_, _++_, map}
 use Prim.Native.Nat.{ℕ, suc, _+_, _*_, _/_}
 use lib.Dec.{ltb, eqb}
 use lib.ListN.{length, drop}
+use Rattle.numeral.specs.Reading.{whyNumber}
 use Rattle.order.specs.Order as order
 use Rattle.script_words.specs.Words.{linesOf}
 use Rattle.script.specs.Faults.{faultNumber, faultId}
@@ -23,11 +24,32 @@ abbrev pub scriptRefusal : Refusal → ℕ
 scriptRefusal TooLong = 1
 scriptRefusal NotAscii = 2
 scriptRefusal OneWord = 3
-scriptRefusal BadTick = 4
+scriptRefusal (BadTick flaw) = 4
 scriptRefusal UnknownFault = 5
 scriptRefusal MissingId = 6
-scriptRefusal BadId = 7
+scriptRefusal (BadId flaw) = 7
 scriptRefusal NoRoom = 8
+
+-- why the word of a bad tick or a bad id is no number, by the reason's number, and at which byte of the word; 0 for any other refusal
+abbrev pub refusalWhy : Refusal → ℕ
+refusalWhy TooLong = 0
+refusalWhy NotAscii = 0
+refusalWhy OneWord = 0
+refusalWhy (BadTick flaw) = whyNumber (flaw .why)
+refusalWhy UnknownFault = 0
+refusalWhy MissingId = 0
+refusalWhy (BadId flaw) = whyNumber (flaw .why)
+refusalWhy NoRoom = 0
+
+abbrev pub refusalByte : Refusal → ℕ
+refusalByte TooLong = 0
+refusalByte NotAscii = 0
+refusalByte OneWord = 0
+refusalByte (BadTick flaw) = flaw .byte
+refusalByte UnknownFault = 0
+refusalByte MissingId = 0
+refusalByte (BadId flaw) = flaw .byte
+refusalByte NoRoom = 0
 
 -- the most bytes that a text may have
 abbrev pub longest : ℕ

@@ -12,7 +12,7 @@ ghost use lib.ListN.{length};
 ghost use Rattle.basis.specs.Basis.{laid};
 ghost use Rattle.order.specs.Order.{eventWords};
 ghost use Rattle.script.specs.Lines.{lineSays};
-ghost use Rattle.script.specs.Scripts.{scriptRefusal, longest, shortText, middleText, heldWords, strayLine, linesJudged, judgedLine, said, lineEvents, eventsOf, scriptAnswer, wordsGiven, scriptWords};
+ghost use Rattle.script.specs.Scripts.{scriptRefusal, refusalWhy, refusalByte, longest, shortText, middleText, heldWords, strayLine, linesJudged, judgedLine, said, lineEvents, eventsOf, scriptAnswer, wordsGiven, scriptWords};
 
 // What a script says: how many events it has, or why it is refused and at which line.
 pub enum Script {
@@ -50,11 +50,33 @@ pub fn refusal_number(refusal: Refusal) -> u64
         Refusal::TooLong => 1,
         Refusal::NotAscii => 2,
         Refusal::OneWord => 3,
-        Refusal::BadTick => 4,
+        Refusal::BadTick(_) => 4,
         Refusal::UnknownFault => 5,
         Refusal::MissingId => 6,
-        Refusal::BadId => 7,
+        Refusal::BadId(_) => 7,
         Refusal::NoRoom => 8,
+    }
+}
+
+// The reason's number for a tick or an id that is no number; 0 for any other refusal.
+pub fn refusal_why(refusal: Refusal) -> u64
+    ensures { λ r. ⌜ r ≡ refusalWhy refusal ⌝ }
+{
+    match refusal {
+        Refusal::BadTick(flaw) => flaw.number(),
+        Refusal::BadId(flaw) => flaw.number(),
+        _ => 0,
+    }
+}
+
+// At which byte of its word that tick or id went bad, counted from 0; 0 for any other refusal.
+pub fn refusal_byte(refusal: Refusal) -> usize
+    ensures { λ r. ⌜ r ≡ refusalByte refusal ⌝ }
+{
+    match refusal {
+        Refusal::BadTick(flaw) => flaw.byte,
+        Refusal::BadId(flaw) => flaw.byte,
+        _ => 0,
     }
 }
 

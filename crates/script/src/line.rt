@@ -3,9 +3,28 @@ use crate::fault;
 use crate::fault::Fault;
 use crate::fault::Named;
 use numeral::Number;
+use numeral::Why;
 ghost use mathlib.Core.Path.{_≡_};
+ghost use Prim.Native.Nat.{ℕ};
+ghost use Rattle.numeral.specs.Reading.{whyNumber};
 ghost use Rattle.script_words.specs.Words.{lineWords};
-ghost use Rattle.script.specs.Lines.{lineSays, ofWords, withFault, present};
+ghost use Rattle.script.specs.Lines.{flawAt, lineSays, ofWords, withFault, present};
+
+// Why a word is no number, and at which place, counting its bytes from 0.
+pub struct Flaw {
+    pub why: Why,
+    pub byte: usize,
+}
+
+impl Flaw {
+    // The reason's number.
+    pub fn number(self) -> u64
+        ensures { λ r. ⌜ r ≡ whyNumber (self .why) ⌝ }
+    {
+        let why = self.why;
+        numeral::why_number(why)
+    }
+}
 
 // Why a script is refused, in the order in which it is tested.
 pub enum Refusal {
@@ -16,13 +35,13 @@ pub enum Refusal {
     // A line has only one word.
     OneWord,
     // The first word is no number.
-    BadTick,
+    BadTick(Flaw),
     // The second word names no fault.
     UnknownFault,
     // The fault needs an id.
     MissingId,
     // The id is no number.
-    BadId,
+    BadId(Flaw),
     // There is one event more than the room lent.
     NoRoom,
 }
@@ -59,8 +78,9 @@ fn parse_words(line: &[u8]) -> Line
     if name.len() == 0 {
         return Line::Faulty(Refusal::OneWord);
     }
-    let Number::Value(tick) = numeral::read(word) else {
-        return Line::Faulty(Refusal::BadTick);
+    let read = numeral::read(word);
+    let Number::Value(tick) = read else {
+        return Line::Faulty(Refusal::BadTick(flaw_of(read)));
     };
     let Named::Is(fault) = fault::fault_of(name) else {
         return Line::Faulty(Refusal::UnknownFault);
@@ -80,8 +100,22 @@ fn parse_id(tick: u64, fault: Fault, word: &[u8]) -> Line
     if word.len() == 0 {
         return Line::Faulty(Refusal::MissingId);
     }
-    let Number::Value(id) = numeral::read(word) else {
-        return Line::Faulty(Refusal::BadId);
+    let read = numeral::read(word);
+    let Number::Value(id) = read else {
+        return Line::Faulty(Refusal::BadId(flaw_of(read)));
     };
     Line::Event(tick, fault.with_id(id))
+}
+
+// The reader's reason and place, of a word that was read as no number.
+fn flaw_of(read: Number) -> Flaw
+    ensures { λ r. ⌜ ((why : Why) (byte : ℕ) → read ≡ Number.Bad why byte → r ≡ flawAt why byte) ⌝ }
+{
+    match read {
+        Number::Value(_) => Flaw {
+            why: Why::NoDigit,
+            byte: 0,
+        },
+        Number::Bad(why, byte) => Flaw { why, byte },
+    }
 }

@@ -2,11 +2,14 @@
 -- computation: two numbers exchanged alike in a definition and in the code fail here. Assumes nothing.
 use mathlib.Core.Path.{_≡_, refl}
 use Prim.Native.Nat.{ℕ}
+use Rattle.numeral.specs.Reading.{whyNumber}
+use Rattle.numeral.specs.declared.Why.the-variants.{NoDigit, StrayByte, TooLarge}
 use Rattle.script.specs.Faults.{faultNumber, withId, same, namedBy}
 use Rattle.script.specs.Scripts.{scriptRefusal}
 use Rattle.script.specs.declared.fault.Fault.{Fault}
 use Rattle.script.specs.declared.fault.Fault.the-variants.{Crash, Restart, Reboot, Partition, Heal, HealAll}
 use Rattle.script.specs.declared.fault.Named.the-variants.{Is}
+use Rattle.script.specs.declared.line.Flaw.{Flaw}
 use Rattle.script.specs.declared.line.Refusal.the-variants.{TooLong, NotAscii, OneWord, BadTick, UnknownFault, MissingId, BadId, NoRoom}
 use Rattle.script_report.specs.Report.{nameOf}
 
@@ -20,16 +23,19 @@ name-reads-back (Partition i) = refl
 name-reads-back (Heal i) = refl
 name-reads-back HealAll = refl
 
--- the refusals of a script by their numbers, and the faults by theirs, whatever the plant
+-- the refusals of a script by their numbers, the reasons of a number gone bad by theirs, and the faults by theirs, whatever the plant
 pub record Numbered : Type 0 where
   pub tooLong : scriptRefusal TooLong ≡ 1
   pub aByteOver127 : scriptRefusal NotAscii ≡ 2
   pub onlyOneWord : scriptRefusal OneWord ≡ 3
-  pub badTick : scriptRefusal BadTick ≡ 4
+  pub badTick : (flaw : Flaw) → scriptRefusal (BadTick flaw) ≡ 4
   pub unknownFault : scriptRefusal UnknownFault ≡ 5
   pub idMissing : scriptRefusal MissingId ≡ 6
-  pub idBad : scriptRefusal BadId ≡ 7
+  pub idBad : (flaw : Flaw) → scriptRefusal (BadId flaw) ≡ 7
   pub roomFull : scriptRefusal NoRoom ≡ 8
+  pub noDigit : whyNumber NoDigit ≡ 1
+  pub strayByte : whyNumber StrayByte ≡ 2
+  pub tooLarge : whyNumber TooLarge ≡ 3
   pub crash : (plant : ℕ) → faultNumber (Crash plant) ≡ 0
   pub restart : (plant : ℕ) → faultNumber (Restart plant) ≡ 1
   pub reboot : (plant : ℕ) → faultNumber (Reboot plant) ≡ 2
@@ -43,11 +49,14 @@ numbered =
       tooLong = refl;
       aByteOver127 = refl;
       onlyOneWord = refl;
-      badTick = refl;
+      badTick = λ flaw. refl;
       unknownFault = refl;
       idMissing = refl;
-      idBad = refl;
+      idBad = λ flaw. refl;
       roomFull = refl;
+      noDigit = refl;
+      strayByte = refl;
+      tooLarge = refl;
       crash = λ plant. refl;
       restart = λ plant. refl;
       reboot = λ plant. refl;

@@ -2,13 +2,14 @@
 // reading and writing.
 use numeral::Written;
 use script::Script;
+use script::line::Refusal;
 ghost use mathlib.Core.Path.{_≡_};
 ghost use Prim.Native.Nat.{_+_, _*_, _≤_};
 ghost use lib.ListN.{length, take};
 ghost use Rattle.basis.specs.Basis.{laid};
 ghost use Rattle.numeral.specs.Writing.{decimal};
 ghost use Rattle.order.specs.Order.{eventsIn};
-ghost use Rattle.script_report.specs.Report.{mostReported, enough, numberLine, nameOf, faultLine, eventText, eventsText, listed, reportOf, bytesAfter};
+ghost use Rattle.script_report.specs.Report.{mostReported, enough, numberLine, nameOf, faultLine, eventText, eventsText, listed, reasonText, refusalText, reportOf, bytesAfter};
 
 // How a report ended: with the number of bytes at the front of the slice, or with nothing written.
 pub enum Reported {
@@ -21,7 +22,7 @@ const EVENTS: usize = 2048;
 
 const ROOM: usize = 3 * EVENTS;
 
-// The bytes that are always enough: 28 for the line of the count, and 66 for each event.
+// The bytes that are always enough: 28 for the line of the count, and 66 for each event. A refusal's lines take far fewer.
 pub const ENOUGH: usize = 28 + 66 * EVENTS;
 
 // Room for every report. The contract gives its length alone, which is all that lending it asks.
@@ -42,11 +43,33 @@ pub fn report(text: &[u8], out: &mut [u8]) -> Reported
     let mut events = [0u64; ROOM];
     match script::parse_script(text, &mut events) {
         Script::Events(count) => Reported::Written(put_events(&events, count, out)),
-        Script::Refused(refusal, line) => {
-            let at = put_number_line(out, 0, b"refusal=", script::refusal_number(refusal));
-            Reported::Written(put_number_line(out, at, b"line=", line as u64))
-        }
+        Script::Refused(refusal, line) => Reported::Written(put_refusal(refusal, line, out)),
     }
+}
+
+// The lines of a refusal.
+fn put_refusal(refusal: Refusal, line: usize, out: &mut [u8]) -> usize
+    requires { ⌜ enough ≤ length (now out) ⌝ }
+    ensures place { λ r. ⌜ r ≡ length (refusalText refusal line) ⌝ }
+    ensures bytes { λ r. ⌜ now (out .exit) ≡ laid (now (out .entry)) 0 (refusalText refusal line) ⌝ }
+{
+    let second = put_number_line(out, 0, b"refusal=", script::refusal_number(refusal));
+    let third = put_number_line(out, second, b"line=", line as u64);
+    put_reason(out, third, refusal)
+}
+
+// Why and where a number went bad, where it is that.
+fn put_reason(out: &mut [u8], at: usize, refusal: Refusal) -> usize
+    requires { ⌜ at + 51 ≤ length (now out) ⌝ }
+    ensures place { λ r. ⌜ r ≡ at + length (reasonText refusal) ⌝ }
+    ensures bytes { λ r. ⌜ now (out .exit) ≡ laid (now (out .entry)) at (reasonText refusal) ⌝ }
+{
+    let why = script::refusal_why(refusal);
+    if why == 0 {
+        return at;
+    }
+    let second = put_number_line(out, at, b"why=", why);
+    put_number_line(out, second, b"byte=", script::refusal_byte(refusal) as u64)
 }
 
 // The count of the events and then each of the first `count`.

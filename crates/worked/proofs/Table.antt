@@ -2,7 +2,7 @@
 use mathlib.Core.Path.{refl}
 use lib.Ieee.{toBits, ofBits}
 use Rattle.numeral.specs.Digits.{isDigit, allDigits, valueOf}
-use Rattle.numeral.specs.Reading.{numberOf, unsigned, isNumber, inDigits}
+use Rattle.numeral.specs.Reading.{unsigned, beginsNumber, stopFrom, stop, numberOf}
 use Rattle.chance.specs.Probability.{goodWord, isOne, isZero, thresholdOf}
 use Rattle.chance.specs.Draw.{byWord, genBool, genBoolInSend}
 use Rattle.basis.specs.Basis.{plantCount}
@@ -21,7 +21,7 @@ use Rattle.worked.specs.Table.{Worked}
 
 pub worked : Worked
 unfolding
-    numberOf unsigned inDigits isNumber allDigits isDigit valueOf
+    numberOf stop stopFrom beginsNumber unsigned allDigits isDigit valueOf
     toBits ofBits goodWord isOne isZero thresholdOf byWord genBool genBoolInSend
     tested plantCount State.plantsFormed noneSet countsFit
     shuffledFrom picksWithin picksInRange idsFrom those lineUp insertedId sortedIds coreOf
@@ -44,6 +44,10 @@ worked =
       comma = refl;
       largest = refl;
       one-more = refl;
+      one-more-then-stray = refl;
+      no-word = refl;
+      plus-alone = refl;
+      plus-then-stray = refl;
       draws-used = refl;
       extras-used = refl;
       due-ticks = refl;

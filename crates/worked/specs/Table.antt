@@ -9,6 +9,7 @@ use lib.Ieee.{Float, fin, binary64, toBits}
 use lib.ListN.{take, replicate}
 use Rattle.numeral.specs.Bytes.{bytes}
 use Rattle.numeral.specs.Reading.{numberOf}
+use Rattle.numeral.specs.declared.Why.the-variants.{NoDigit, StrayByte, TooLarge}
 use Rattle.numeral.specs.declared.Number.the-variants.{Value, Bad}
 use Rattle.chance.specs.Probability.{thresholdOf}
 use Rattle.chance.specs.Draw.{genBoolInSend}
@@ -92,11 +93,15 @@ pub record Worked : Type 0 where
   -- needed copies: with nobody recovering a majority of an odd number of plants, and one less than a majority of an even one
   pub four-of-four : neededCopies 4 4 ≡ 2
   pub two-of-five : neededCopies 5 2 ≡ 0
-  -- ticks: `+007`, `1,500`, 18446744073709551615 and one more
+  -- ticks: `+007`, `1,500`, 18446744073709551615 and one more; a bad one with why and where, the earliest reason
   pub plus-007 : numberOf (bytes "+007") ≡ Value 7
-  pub comma : numberOf (bytes "1,500") ≡ Bad
+  pub comma : numberOf (bytes "1,500") ≡ Bad StrayByte 1
   pub largest : numberOf (bytes "18446744073709551615") ≡ Value 18446744073709551615
-  pub one-more : numberOf (bytes "18446744073709551616") ≡ Bad
+  pub one-more : numberOf (bytes "18446744073709551616") ≡ Bad TooLarge 19
+  pub one-more-then-stray : numberOf (bytes "18446744073709551616x") ≡ Bad TooLarge 19
+  pub no-word : numberOf (bytes "") ≡ Bad NoDigit 0
+  pub plus-alone : numberOf (bytes "+") ≡ Bad NoDigit 1
+  pub plus-then-stray : numberOf (bytes "+x") ≡ Bad StrayByte 1
   -- the run: the copy due 17 seq 1, the original due 12 seq 2, delayed 1
   pub draws-used : decided options 10 1 draws extras .draws ≡ 2
   pub extras-used : decided options 10 1 draws extras .extras ≡ 2

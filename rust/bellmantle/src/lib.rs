@@ -32,5 +32,5 @@ pub use plants::{Core, Plants, Verdict};
 pub use properties::{Broken, Property, Snapshot, Tracker};
 pub use raw::{EVENT_WORDS, LOG_ENTRIES};
 pub use refusal::Refusal;
-pub use script::{parse_script, parse_script_into, Fault, FaultScript, ScriptError};
+pub use script::{parse_script, parse_script_into, Fault, FaultScript, Flaw, ScriptError, Why};
 pub use words::Words;

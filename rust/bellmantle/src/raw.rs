@@ -152,13 +152,33 @@ pub mod told {
 
 // ---- Fault scripts
 
-/// Reads a fault script: 1 to 8. Returns how many events there are, which stand in front of the lent words; or a refusal's number
-/// times 2^32 and its line.
+/// Reads a fault script: 1 to 8. Returns how many events there are, which stand in front of the lent words; or a refusal, which
+/// [`refused_number`] and the functions behind it take apart.
 pub fn parse_script(text: &[u8], events: &mut [u64]) -> u64 {
     // SAFETY: as the module says of every reference.
     unsafe {
         sys::bellmantle_parse_script(text.as_ptr(), text.len(), events.as_mut_ptr(), events.len())
     }
+}
+
+/// The number of a refusal in what [`parse_script`] returned; 0 where the script was read.
+pub const fn refused_number(packed: u64) -> u64 {
+    packed >> 56
+}
+
+/// Its line, counted from 1; 0 for a text too long.
+pub const fn refused_line(packed: u64) -> u64 {
+    packed & 0xff_ffff
+}
+
+/// For 4 and 7 why the word is no number: 1 no digit, 2 a stray byte, 3 too large. 0 otherwise.
+pub const fn refused_why(packed: u64) -> u64 {
+    packed >> 48 & 0xff
+}
+
+/// For 4 and 7 at which byte of the word, counted from 0. 0 otherwise.
+pub const fn refused_byte(packed: u64) -> u64 {
+    packed >> 24 & 0xff_ffff
 }
 
 // ---- The network

@@ -63,17 +63,90 @@ impl fmt::Display for Fault {
 /// What to inject, and at which tick.
 pub type FaultScript = Vec<(u64, Fault)>;
 
-/// Why a script is refused, and the line that it is about, counted from 1 (0 for a text too long).
+/// Why a word is no number.
+#[derive(Clone, Copy, Debug, PartialEq, Eq, Hash)]
+pub enum Why {
+    /// 1: it ends where a digit must stand.
+    NoDigit,
+    /// 2: a byte that is no digit, such as the comma of `1,500`.
+    StrayByte,
+    /// 3: with this digit it passes 2^64 - 1.
+    TooLarge,
+}
+
+impl Why {
+    /// Its number in the rules.
+    pub fn number(self) -> u64 {
+        match self {
+            Why::NoDigit => 1,
+            Why::StrayByte => 2,
+            Why::TooLarge => 3,
+        }
+    }
+
+    fn of(number: u64) -> Why {
+        match number {
+            1 => Why::NoDigit,
+            2 => Why::StrayByte,
+            3 => Why::TooLarge,
+            number => panic!("the library has no reason {number}"),
+        }
+    }
+}
+
+impl fmt::Display for Why {
+    fn fmt(&self, f: &mut fmt::Formatter<'_>) -> fmt::Result {
+        f.write_str(match self {
+            Why::NoDigit => "a digit is missing",
+            Why::StrayByte => "a stray byte",
+            Why::TooLarge => "too large",
+        })
+    }
+}
+
+/// Where a number went bad: why, and at which byte of its word, counted from 0. The earliest reason wins.
+#[derive(Clone, Copy, Debug, PartialEq, Eq, Hash)]
+#[allow(missing_docs)]
+pub struct Flaw {
+    pub why: Why,
+    pub byte: u32,
+}
+
+/// Why a script is refused, the line that it is about, counted from 1 (0 for a text too long), and for [`Refusal::BadTick`] and
+/// [`Refusal::BadId`], and for them alone, where the number went bad.
 #[derive(Clone, Copy, Debug, PartialEq, Eq)]
 #[allow(missing_docs)]
 pub struct ScriptError {
     pub refusal: Refusal,
     pub line: u32,
+    pub flaw: Option<Flaw>,
+}
+
+impl ScriptError {
+    /// The parts of a word that the library returned for a refusal.
+    fn of(packed: u64) -> ScriptError {
+        let flaw = match raw::refused_why(packed) {
+            0 => None,
+            number => Some(Flaw {
+                why: Why::of(number),
+                byte: raw::refused_byte(packed) as u32,
+            }),
+        };
+        ScriptError {
+            refusal: Refusal::of(raw::refused_number(packed)),
+            line: raw::refused_line(packed) as u32,
+            flaw,
+        }
+    }
 }
 
 impl fmt::Display for ScriptError {
     fn fmt(&self, f: &mut fmt::Formatter<'_>) -> fmt::Result {
-        write!(f, "line {}: {}", self.line, self.refusal)
+        write!(f, "line {}: {}", self.line, self.refusal)?;
+        match self.flaw {
+            None => Ok(()),
+            Some(Flaw { why, byte }) => write!(f, ": {why} at byte {byte} of the word"),
+        }
     }
 }
 
@@ -95,12 +168,8 @@ pub fn parse_script(text: &[u8]) -> Result<FaultScript, ScriptError> {
 /// The same into lent words, three for each event; how many events there are. On an error no word is changed.
 pub fn parse_script_into(text: &[u8], events: &mut [u64]) -> Result<usize, ScriptError> {
     let packed = raw::parse_script(text, events);
-    let low = packed as u32;
-    match packed >> 32 {
-        0 => Ok(low as usize),
-        number => Err(ScriptError {
-            refusal: Refusal::of(number),
-            line: low,
-        }),
+    match raw::refused_number(packed) {
+        0 => Ok(packed as usize),
+        _ => Err(ScriptError::of(packed)),
     }
 }

@@ -93,6 +93,12 @@ fn refuses(script: &[u8], number: u32, line: usize) {
     says(&[script], Duration::ZERO, &expected, 1);
 }
 
+/// A script with a bad number: why, and at which byte of its word.
+fn refuses_number(script: &[u8], number: u32, line: usize, why: u32, byte: usize) {
+    let expected = format!("refusal={number}\nline={line}\nwhy={why}\nbyte={byte}\n");
+    says(&[script], Duration::ZERO, &expected, 1);
+}
+
 /// A script of so many bytes whose last byte decides its only event's id.
 fn to_the_last_byte(bytes: usize) -> Vec<u8> {
     let end = b"\n5 crash 12";
@@ -153,11 +159,129 @@ fn every_refusal_with_its_line() {
     refuses(&vec![b' '; LONGEST + 1], 1, 0);
     refuses("5 crash 1\n6 crash 2 # Süd\n".as_bytes(), 2, 2);
     refuses(b"\n\n5\n", 3, 3);
-    refuses(b"1,500 crash 1\n", 4, 1);
+    refuses_number(b"1,500 crash 1\n", 4, 1, 2, 1);
     refuses(b"5 crash 1\n5 Crash 1\n", 5, 2);
     refuses(b"5 crash # 1\n", 6, 1);
-    refuses(b"5 crash 1,5\n", 7, 1);
+    refuses_number(b"5 crash 1,5\n", 7, 1, 2, 1);
     refuses(&b"0 heal 0\n".repeat(MOST_EVENTS + 1), 8, MOST_EVENTS + 1);
+}
+
+#[test]
+fn where_a_number_went_bad() {
+    refuses_number(b"5 crash 18446744073709551616x\n", 7, 1, 3, 19);
+    refuses_number(b"\n+ crash 1\n", 4, 2, 1, 1);
+    refuses_number(b"5 heal 1\n18446744073709551616 heal 1\n", 4, 2, 3, 19);
+    // the longest report: every number of it has the most digits that it can have
+    let mut longest = vec![b'\n'; 9_999];
+    longest.extend(vec![b'0'; LONGEST - longest.len() - 10]);
+    let byte = longest.len() - 9_999;
+    longest.extend(b"x heal-all");
+    refuses_number(&longest, 4, 10_000, 2, byte);
+}
+
+/// What the wrapper says in words on standard error, where it is asked to.
+fn explains(script: &[u8], expected: &str) {
+    faults();
+    let mut command = Command::new(wrapper());
+    command.args(["faults", "--explain"]);
+    let out = fed(command, &[script], Duration::ZERO);
+    assert_eq!(text(&out.stderr), expected);
+    assert_eq!(out.status.code(), Some(i32::from(!expected.is_empty())));
+    let mut command = Command::new(wrapper());
+    command.arg("faults");
+    let plain = fed(command, &[script], Duration::ZERO);
+    assert_eq!(text(&out.stdout), text(&plain.stdout));
+}
+
+#[test]
+fn a_refusal_in_words() {
+    explains(SAMPLE.as_bytes(), "");
+    explains(
+        &vec![b' '; LONGEST + 1],
+        "bellmantle: the script is over 65,536 bytes\n",
+    );
+    explains(
+        b"\n\t5 cr\xc3\xa4sh 1\r\n",
+        "bellmantle: line 2: there is a byte over 127; a script is plain ASCII\n     5 cr??sh 1 \n",
+    );
+    explains(
+        b"5",
+        "bellmantle: line 1: there is only one word; a line has a tick, a fault and, for all but heal-all, a plant's id\n    5\n",
+    );
+    explains(
+        b"# east\n 1,500\tcrash 1 # \x1b[2J\n",
+        "bellmantle: line 2: the tick is no number: this byte is no digit\n     1,500 crash 1 # ?[2J\n      ^\n",
+    );
+    explains(
+        b"5 crash 1\n5 Crash 1\n",
+        "bellmantle: line 2: there is no such fault; there are crash, restart, reboot, partition, heal and heal-all\n    5 Crash 1\n",
+    );
+    explains(
+        b"5 crash # 1\n",
+        "bellmantle: line 1: the fault needs a plant's id\n    5 crash # 1\n",
+    );
+    explains(
+        b"5  crash   18446744073709551616x\n",
+        "bellmantle: line 1: the id is no number: here it passes 18446744073709551615\n    5  crash   18446744073709551616x\n                                  ^\n",
+    );
+    explains(
+        b"5 crash +",
+        "bellmantle: line 1: the id is no number: a digit is missing here\n    5 crash +\n             ^\n",
+    );
+    explains(
+        &b"0 heal 0\n".repeat(MOST_EVENTS + 1),
+        "bellmantle: line 2049: this is one event more than the 2,048 that there is room for\n    0 heal 0\n",
+    );
+}
+
+#[test]
+fn a_long_line_is_shown_around_its_fault() {
+    let zeros = "0".repeat(300);
+    let line = format!("{zeros}x crash {zeros}\n");
+    let part = format!("{}x crash {}", "0".repeat(36), "0".repeat(28));
+    let caret = " ".repeat(4 + 4 + 36);
+    explains(
+        line.as_bytes(),
+        &format!("bellmantle: line 1: the tick is no number: this byte is no digit\n    ... {part} ...\n{caret}^\n"),
+    );
+}
+
+#[test]
+fn on_a_terminal_a_refusal_is_said_in_words() {
+    faults();
+    let folder = folder("on a terminal");
+    fs::write(folder.join("bad.txt"), "1,500 crash 1\n").unwrap();
+    let line = format!(
+        "script -qec \"'{}' faults bad.txt >out.txt\" /dev/null",
+        wrapper().display()
+    );
+    let (status, said, _) = shell(&folder, &line);
+    let expected = "bellmantle: line 1: the tick is no number: this byte is no digit\r\n    1,500 crash 1\r\n     ^\r\n";
+    assert_eq!((status, said.as_str()), (1, expected));
+    let out = fs::read_to_string(folder.join("out.txt")).unwrap();
+    assert_eq!(out, "refusal=4\nline=1\nwhy=2\nbyte=1\n");
+}
+
+#[test]
+fn an_input_that_cannot_be_read_is_not_explained() {
+    let inputs = [
+        Stdio::from(File::open("/").unwrap()),
+        Stdio::from(failing_after_some_bytes()),
+    ];
+    faults();
+    for input in inputs {
+        let mut command = Command::new(wrapper());
+        command.args(["faults", "--explain"]).stdin(input);
+        let out = command.output().unwrap();
+        assert_eq!(
+            (text(&out.stdout), text(&out.stderr), out.status.code()),
+            (
+                "",
+                "bellmantle: standard input: it could not be read\n",
+                Some(2)
+            )
+        );
+    }
 }
 
 #[test]

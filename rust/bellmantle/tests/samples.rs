@@ -173,7 +173,8 @@ impl<'a> Replay<'a> {
         count.times += 1;
         count.differing += u64::from(!agrees);
         let refusal = match which {
-            0 | 7 => answer >> 32,
+            0 => raw::refused_number(answer),
+            7 => answer >> 32,
             _ => answer,
         };
         if refusal != 0 {

@@ -1,6 +1,6 @@
 //! Fault scripts through the safe crate.
 
-use bellmantle::{parse_script, parse_script_into, Fault, Refusal};
+use bellmantle::{parse_script, parse_script_into, Fault, Flaw, Refusal, Why};
 
 #[test]
 fn the_sample_of_the_rules() {
@@ -27,8 +27,35 @@ fn one_thousand_five_hundred_is_a_bad_tick() {
     assert_eq!((error.refusal, error.line), (Refusal::BadTick, 2));
     assert_eq!(
         error.to_string(),
-        "line 2: the tick is no number (refusal 4)"
+        "line 2: the tick is no number (refusal 4): a stray byte at byte 1 of the word"
     );
+}
+
+#[test]
+fn where_a_number_went_bad() {
+    let cases: [(&str, Why, u32); 8] = [
+        ("1,500", Why::StrayByte, 1),
+        ("-0", Why::StrayByte, 0),
+        ("+x", Why::StrayByte, 1),
+        ("+", Why::NoDigit, 1),
+        ("18446744073709551616", Why::TooLarge, 19),
+        ("18446744073709551616x", Why::TooLarge, 19),
+        ("18446744073709551615x", Why::StrayByte, 20),
+        ("+0018446744073709551616", Why::TooLarge, 22),
+    ];
+    for (word, why, byte) in cases {
+        let flaw = Some(Flaw { why, byte });
+        let tick = parse_script(format!("\n{word} crash 1").as_bytes()).unwrap_err();
+        assert_eq!((tick.refusal, tick.line, tick.flaw), (Refusal::BadTick, 2, flaw));
+        let id = parse_script(format!("5 crash {word}").as_bytes()).unwrap_err();
+        assert_eq!((id.refusal, id.line, id.flaw), (Refusal::BadId, 1, flaw));
+    }
+    let digits = format!("{}x heal-all", "0".repeat(65_526));
+    let last = Some(Flaw {
+        why: Why::StrayByte,
+        byte: 65_526,
+    });
+    assert_eq!(parse_script(digits.as_bytes()).unwrap_err().flaw, last);
 }
 
 #[test]
@@ -46,6 +73,8 @@ fn every_refusal() {
     for (text, refusal, line) in cases {
         let error = parse_script(text).unwrap_err();
         assert_eq!((error.refusal, error.line), (refusal, line));
+        let is_about_a_number = matches!(refusal, Refusal::BadTick | Refusal::BadId);
+        assert_eq!(error.flaw.is_some(), is_about_a_number);
     }
 }
 

@@ -1,55 +1,28 @@
--- `script_packed::parse_script` meets its contract: a refusal's number is at most 8 and its line at most the text's last, so that the
--- answer fits a word. Assumes nothing.
-use native.Mathlib.Omega.{arith}
+-- `script_packed::parse_script` meets its contract: what is told of a text is so small that its parts fit below each other. Assumes
+-- nothing.
 use mathlib.Core.Path.{sym, ap, _∙_}
-use Prim.Native.Nat.{ℕ, _+_, _*_, _≤_}
 use lib.ListN.{length}
-use Rattle.script.specs.Scripts.{scriptRefusal}
-use Rattle.script.specs.declared.line.Refusal.{Refusal}
-use Rattle.script.specs.declared.line.Refusal.the-variants.{TooLong, NotAscii, OneWord, BadTick, UnknownFault, MissingId, BadId, NoRoom}
-use Rattle.script.proofs.Laws.{refusal-line}
 use Rattle.script_packed.specs.Packing.{answerWord}
+use Rattle.script_packed.proofs.Parts.{below-factor}
 use borrow.Author.Needs.{needs}
 use Rattle.script_packed.proofs.parse_script.Statement.{statement}
 use Rattle.script_packed.proofs.parse_script.Tie as tie
-
-few : (r : Refusal) → scriptRefusal r ≤ 8
-few TooLong = omega arith
-few NotAscii = omega arith
-few OneWord = omega arith
-few BadTick = omega arith
-few UnknownFault = omega arith
-few MissingId = omega arith
-few BadId = omega arith
-few NoRoom = omega arith
 
 parse-script-requires : tie.Need-parse-script-requires
 parse-script-requires c κs = search needs
 
 enum-known-count : tie.Need-enum-known-count
-enum-known-count c = search needs
+enum-known-count c = c .match .keys1
 
 enum-known-refusal : tie.Need-enum-known-refusal
-enum-known-refusal c = search needs
+enum-known-refusal c = c .match .keys2
 
-refusal-number-requires : tie.Need-refusal-number-requires
-refusal-number-requires c κs = search needs
-
-mul-result : tie.Need-mul-result
-mul-result c = omega (arith, few (c .before .before .refusal .given .0 .0), c .refusal-number .ensures)
-
-add-result : tie.Need-add-result
-add-result c =
-    let p = c .before .before .before .before .before .before in
+packed-requires : tie.Need-packed-requires
+packed-requires c κs =
+    let p = c .before .before .before .before .before in
     let s = p .before .before .before .before in
-    let g = c .before .before .refusal .given in
-    omega (
-      arith,
-      few (g .0 .0),
-      c .refusal-number .ensures,
-      refusal-line (s .args .text .now) (length (s .args .events .now)) (g .0 .0) (g .0 .1 .0) (sym (p .parse-script .ensures .0) ∙ g .1),
-      s .good,
-    )
+    let g = c .before .refusal .given in
+    below-factor (s .args .text .now) (length (s .args .events .now)) (g .0 .0) (g .0 .1 .0) (sym (p .parse-script .ensures .0) ∙ g .1)
 
 same-length : tie.Need-same-length
 same-length c = search needs
@@ -66,7 +39,7 @@ returns-2 : tie.Need-returns-2
 returns-2 c =
     let p = c .before .before .before .before .before .before in
     let g = c .before .before .refusal .given in (
-      ap (λ (n : ℕ). n * 4294967296 + g .0 .1 .0) (c .refusal-number .ensures) ∙ sym (ap answerWord (sym (p .parse-script .ensures .0) ∙ g .1)),
+      c .packed .ensures ∙ sym (ap answerWord (sym (p .parse-script .ensures .0) ∙ g .1)),
       p .parse-script .ensures .1,
     )
 
@@ -77,9 +50,7 @@ parse-script-spec =
     parse-script-requires
     enum-known-count
     enum-known-refusal
-    refusal-number-requires
-    mul-result
-    add-result
+    packed-requires
     same-length
     returns
     same-length-2

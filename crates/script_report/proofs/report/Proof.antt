@@ -1,7 +1,7 @@
 -- `script_report::report` meets its contract: the text for the answer, which always fits. Assumes nothing.
 use borrow.Author.Tests.{le-leb, lt-leb}
 use native.Mathlib.Omega.{arith}
-use mathlib.Core.List.{List, _++_}
+use mathlib.Core.List.{List}
 use mathlib.Core.Path.{_≡_, sym, ap, _∙_}
 use Prim.Native.Nat.{ℕ, _+_, _*_, _≤_, _<_}
 use lib.ListN.{length, take, drop, replicate, length-replicate}
@@ -9,14 +9,12 @@ use lib.Seq.{take-at}
 use Rattle.basis.specs.Basis.{laid}
 use Rattle.order.specs.Order.{eventWords, eventsIn}
 use Rattle.order.proofs.Laws.{length-wordsOf, eventsIn-wordsOf}
-use Rattle.script.specs.Scripts.{scriptRefusal, scriptAnswer, sortedEvents, scriptWords}
+use Rattle.script.specs.Scripts.{scriptAnswer, sortedEvents, scriptWords}
 use Rattle.script.specs.declared.line.Refusal.{Refusal}
 use Rattle.script.specs.declared.Script.the-variants.{Events, Refused}
 use Rattle.script.proofs.Laws.{events-counted}
-use Rattle.script_report.specs.Report.{numberLine, refusalKey, lineKey, listed, eventRoom, reportText, enough, reportOf, bytesAfter}
+use Rattle.script_report.specs.Report.{listed, refusalText, eventRoom, reportText, enough, reportOf, bytesAfter}
 use Rattle.script_report.specs.declared.Reported.the-variants.{Written, NoRoom}
-use Rattle.script_report.proofs.Laying.{laid-two}
-use Rattle.script_report.proofs.Lengths.{decimal-most, number-line}
 use borrow.Author.Needs.{needs}
 use Rattle.script_report.proofs.report.Statement.{statement}
 use Rattle.script_report.proofs.report.Tie as tie
@@ -37,7 +35,7 @@ accepted-text : (text : List ℕ) (m : ℕ) → scriptAnswer text eventRoom ≡ 
 unfolding reportText
 accepted-text text m e = rw e
 
-refused-text : (text : List ℕ) (r : Refusal) (n : ℕ) → scriptAnswer text eventRoom ≡ Refused r n → reportText text ≡ numberLine refusalKey (scriptRefusal r) ++ numberLine lineKey n
+refused-text : (text : List ℕ) (r : Refusal) (n : ℕ) → scriptAnswer text eventRoom ≡ Refused r n → reportText text ≡ refusalText r n
 unfolding reportText
 refused-text text r n e = rw e
 
@@ -80,24 +78,8 @@ put-events-requires c κs =
 enum-known-refusal : tie.Need-enum-known-refusal
 enum-known-refusal c = search needs
 
-slice-aggregate-put-number-line : tie.Need-slice-aggregate-put-number-line
-slice-aggregate-put-number-line c = search needs
-
-refusal-number-requires : tie.Need-refusal-number-requires
-refusal-number-requires c κs = search needs
-
-put-number-line-requires : tie.Need-put-number-line-requires
-put-number-line-requires c κs = search needs
-
-slice-aggregate-put-number-line-2 : tie.Need-slice-aggregate-put-number-line-2
-slice-aggregate-put-number-line-2 c = search needs
-
-put-number-line-requires-2 : tie.Need-put-number-line-requires-2
-put-number-line-requires-2 c κs =
-    let k = c .before .before .before .before in
-    let r = k .before in
-    let s = c .before .before .before .before .before .before .before .before .before .before .before .before .before .before .before .before .before in
-    omega (arith, k .put-number-line .ensures .0, k .put-number-line .kept .0, number-line refusalKey (r .refusal-number .result), decimal-most (r .refusal-number .result), c .before .before .before .before .before .before .before .before .before .before .before .before .before .before .if1 .left)
+put-refusal-requires : tie.Need-put-refusal-requires
+put-refusal-requires c κs = c .before .before .before .before .before .before .before .if1 .left
 
 same-length : tie.Need-same-length
 same-length c = search needs
@@ -120,23 +102,14 @@ same-length-2 c = search needs
 
 returns-3 : tie.Need-returns-3
 returns-3 c =
-    let l = c .before .before in
-    let k = c .before .before .before .before .before .before .before in
-    let r = k .before in
-    let p = c .before .before .before .before .before .before .before .before .before .before .before .before .before .before .before in
-    let st = p .before .before in
-    let a = st .before .before .before .args in
-    let g = c .before .before .before .before .before .before .before .before .before .before .before .before .refusal .given in
+    let f = c .before .before in
+    let p = f .before .before .before .before .before .before in
+    let s = p .before .before in
+    let a = s .before .before .before .args in
+    let g = f .before .before .before .refusal .given in
     let e = answered p ∙ g .1 in
-    let n = scriptRefusal (g .0 .0) in
-    let q = r .refusal-number .ensures in
-    let t =
-    laid-two (a .out .now) 0 (numberLine refusalKey n) (numberLine lineKey (g .0 .1 .0))
-    (omega (arith, number-line refusalKey n, decimal-most n, st .if1 .left))
-    (k .put-number-line .result) (l .put-number-line2 .result) (k .put-number-line .last .0) (l .put-number-line2 .last .0)
-    (rw q at (k .put-number-line .ensures .0)) (rw q at (k .put-number-line .ensures .1)) (l .put-number-line2 .ensures .0) (l .put-number-line2 .ensures .1) in
-    settled (a .text .now) (a .out .now) (numberLine refusalKey n ++ numberLine lineKey (g .0 .1 .0)) (l .put-number-line2 .result) (l .put-number-line2 .last .0) (st .if1 .left)
-    (refused-text (a .text .now) (g .0 .0) (g .0 .1 .0) e) (t .0 ∙ omega arith) (t .1)
+    settled (a .text .now) (a .out .now) (refusalText (g .0 .0) (g .0 .1 .0)) (f .put-refusal .result) (f .put-refusal .last .1 .1 .0) (s .if1 .left)
+    (refused-text (a .text .now) (g .0 .0) (g .0 .1 .0) e) (f .put-refusal .ensures .0) (f .put-refusal .ensures .1)
 
 pub report-spec : {M : Type 1} → statement M
 report-spec =
@@ -149,11 +122,7 @@ report-spec =
     slice-aggregate-put-events
     put-events-requires
     enum-known-refusal
-    slice-aggregate-put-number-line
-    refusal-number-requires
-    put-number-line-requires
-    slice-aggregate-put-number-line-2
-    put-number-line-requires-2
+    put-refusal-requires
     same-length
     returns-2
     same-length-2

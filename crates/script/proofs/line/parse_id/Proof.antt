@@ -4,7 +4,9 @@ use mathlib.Core.Bool.{true}
 use mathlib.Core.Path.{_≡_, sym, ap, _∙_}
 use Rattle.script.specs.Faults.{needsId}
 use Rattle.script.specs.Lines.{withNumber, present}
-use Rattle.script.specs.declared.line.Line.the-variants.{Event}
+use Rattle.script.specs.declared.line.Flaw.{Flaw}
+use Rattle.script.specs.declared.line.Line.the-variants.{Event, Faulty}
+use Rattle.script.specs.declared.line.Refusal.the-variants.{BadId}
 use Rattle.script.proofs.Saying.{no-id-needed, id-missing, id-read}
 use Rattle.script.proofs.line.parse_id.Statement.{statement}
 use Rattle.script.proofs.line.parse_id.Tie as tie
@@ -28,18 +30,25 @@ returns-2 c =
 read-requires : tie.Need-read-requires
 read-requires c κs = tt
 
-enum-known-id : tie.Need-enum-known-id
-enum-known-id c = c .match .keys1
+enum-known-read : tie.Need-enum-known-read
+enum-known-read c = c .match .keys1
 
 enum-told : tie.Need-enum-told
 enum-told c = c .match .keys2
 
+flaw-of-requires : tie.Need-flaw-of-requires
+flaw-of-requires c κs = tt
+
 returns-3 : tie.Need-returns-3
 returns-3 c =
-    let d = c .before .before .before in
+    let t = c .before in
+    let r = t .before .before in
+    let d = r .before in
     let a = d .before .before .before .before .args in
-    ap (withNumber (a .tick) (a .fault)) (sym (c .enum-told .given .1))
-    ∙ id-read (a .tick) (a .fault) (a .word .now) (c .before .before .read .result) (needed (d .before)) (d .if2 .left) (c .before .before .read .ensures)
+    let g = t .enum-told .given in
+    ap (λ (x : Flaw). Faulty (BadId x)) (c .flaw-of .ensures (g .0 .0) (g .0 .1 .0) (g .1))
+    ∙ (ap (withNumber (a .tick) (a .fault)) (sym (g .1))
+    ∙ id-read (a .tick) (a .fault) (a .word .now) (r .read .result) (needed (d .before)) (d .if2 .left) (r .read .ensures))
 
 with-id-requires : tie.Need-with-id-requires
 with-id-requires c κs = tt
@@ -50,7 +59,7 @@ returns-4 c =
     let d = r .before in
     let a = d .before .before .before .before .args in
     ap (Event (a .tick)) (c .with-id .ensures)
-    ∙ (ap (withNumber (a .tick) (a .fault)) (sym (c .before .before .id .given .1))
+    ∙ (ap (withNumber (a .tick) (a .fault)) (sym (c .before .before .read2 .given .1))
     ∙ id-read (a .tick) (a .fault) (a .word .now) (r .read .result) (needed (d .before)) (d .if2 .left) (r .read .ensures))
 
 pub parse-id-spec : {M : Type 1} → statement M
@@ -61,8 +70,9 @@ parse-id-spec =
     returns
     returns-2
     read-requires
-    enum-known-id
+    enum-known-read
     enum-told
+    flaw-of-requires
     returns-3
     with-id-requires
     returns-4)

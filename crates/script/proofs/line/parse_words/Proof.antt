@@ -3,6 +3,9 @@ use mathlib.Core.Path.{sym, ap, _∙_}
 use lib.ListN.{drop}
 use Rattle.script_words.specs.Words.{lineWords}
 use Rattle.script.specs.Lines.{ofWords}
+use Rattle.script.specs.declared.line.Flaw.{Flaw}
+use Rattle.script.specs.declared.line.Line.the-variants.{Faulty}
+use Rattle.script.specs.declared.line.Refusal.the-variants.{BadTick}
 use Rattle.script_words.proofs.Cutting.{part, Inside, inside, three-words}
 use Rattle.script.proofs.Saying.{blank, one-word, bad-tick, unknown, known}
 use Rattle.script.proofs.line.parse_words.Statement.{statement}
@@ -51,21 +54,29 @@ returns-2 c =
 read-requires : tie.Need-read-requires
 read-requires c κs = tt
 
-enum-known-tick : tie.Need-enum-known-tick
-enum-known-tick c = c .match .keys1
+enum-known-read : tie.Need-enum-known-read
+enum-known-read c = c .match .keys1
 
 enum-told : tie.Need-enum-told
 enum-told c = c .match .keys2
 
+flaw-of-requires : tie.Need-flaw-of-requires
+flaw-of-requires c κs = tt
+
 returns-3 : tie.Need-returns-3
 returns-3 c =
-    let f = c .before .before .before .before .before .before .before in
+    let t = c .before in
+    let r = t .before .before in
+    let e = r .before in
+    let f = e .before .before .before .before in
     let l = f .before .before .args .line .now in
     let w = f .first-words .result in
+    let g = t .enum-told .given in
     let all = ap ofWords (sym (three-words l w (f .first-words .ensures))) in
-    bad-tick (part l (w .tick)) (part l (w .name)) (part l (w .id)) (lineWords (drop (w .id .end) l)) (c .before .before .before .before .before .if1 .left) (c .before .before .before .if2 .left)
-    (sym (c .before .before .read .ensures) ∙ c .enum-told .given .1)
-    ∙ all
+    ap (λ (x : Flaw). Faulty (BadTick x)) (c .flaw-of .ensures (g .0 .0) (g .0 .1 .0) (g .1))
+    ∙ (bad-tick (part l (w .tick)) (part l (w .name)) (part l (w .id)) (lineWords (drop (w .id .end) l)) (e .before .before .if1 .left) (e .if2 .left)
+    (g .0 .0) (g .0 .1 .0) (sym (r .read .ensures) ∙ g .1)
+    ∙ all)
 
 fault-of-requires : tie.Need-fault-of-requires
 fault-of-requires c κs = tt
@@ -83,8 +94,8 @@ returns-4 c =
     let w = f .first-words .result in
     let all = ap ofWords (sym (three-words l w (f .first-words .ensures))) in
     unknown (part l (w .tick)) (part l (w .name)) (part l (w .id)) (lineWords (drop (w .id .end) l)) (c .before .before .before .before .before .before .before .before .before .if1 .left) (c .before .before .before .before .before .before .before .if2 .left)
-    (c .before .before .before .before .tick .given .0 .0)
-    (sym (c .before .before .before .before .before .before .read .ensures) ∙ c .before .before .before .before .tick .given .1)
+    (c .before .before .before .before .read2 .given .0 .0)
+    (sym (c .before .before .before .before .before .before .read .ensures) ∙ c .before .before .before .before .read2 .given .1)
     (sym (c .before .before .fault-of .ensures) ∙ c .enum-told2 .given .1)
     ∙ all
 
@@ -108,9 +119,9 @@ returns-5 c =
     let all = ap ofWords (sym (three-words l w (f .first-words .ensures))) in
     c .parse-id .ensures
     ∙ (known (part l (w .tick)) (part l (w .name)) (part l (w .id)) (lineWords (drop (w .id .end) l)) (c .before .before .before .before .before .before .before .before .before .before .before .before .if1 .left) (c .before .before .before .before .before .before .before .before .before .before .if2 .left)
-    (c .before .before .before .before .before .before .before .tick .given .0 .0)
+    (c .before .before .before .before .before .before .before .read2 .given .0 .0)
     (c .before .before .before .fault .given .0 .0)
-    (sym (c .before .before .before .before .before .before .before .before .before .read .ensures) ∙ c .before .before .before .before .before .before .before .tick .given .1)
+    (sym (c .before .before .before .before .before .before .before .before .before .read .ensures) ∙ c .before .before .before .before .before .before .before .read2 .given .1)
     (sym (c .before .before .before .before .before .fault-of .ensures) ∙ c .before .before .before .fault .given .1)
     ∙ all)
 
@@ -128,8 +139,9 @@ parse-words-spec =
     part-name-end
     returns-2
     read-requires
-    enum-known-tick
+    enum-known-read
     enum-told
+    flaw-of-requires
     returns-3
     fault-of-requires
     enum-known-fault
