@@ -5,5 +5,4 @@ pub mod Filling
 pub mod Most
 pub mod Reading
 pub mod Laws
-pub mod Stray
 pub mod FirstFault

@@ -7,12 +7,13 @@ use lib.Dec.{ltb, eqb}
 use lib.ListN.{length, drop}
 use Rattle.order.specs.Order as order
 use Rattle.script_words.specs.Words.{linesOf}
+use Rattle.script_stray.specs.Stray.{strayLine}
 use Rattle.script.specs.Faults.{faultNumber, faultId}
 use Rattle.script.specs.Lines.{lineSays}
 use Rattle.script.specs.declared.line.Line.{Line}
 use Rattle.script.specs.declared.line.Line.the-variants.{Blank, Event, Faulty}
 use Rattle.script.specs.declared.line.Refusal.{Refusal}
-use Rattle.script.specs.declared.line.Refusal.the-variants.{TooLong, NotAscii, OneWord, BadTick, UnknownFault, MissingId, BadId, NoRoom}
+use Rattle.script.specs.declared.line.Refusal.the-variants.{TooLong, BadByte, OneWord, BadTick, UnknownFault, MissingId, BadId, NoRoom}
 use Rattle.script.specs.declared.Judged.{Judged}
 use Rattle.script.specs.declared.Judged.the-variants.{Found, Stopped}
 use Rattle.script.specs.declared.Script.{Script}
@@ -21,7 +22,7 @@ use Rattle.script.specs.declared.Script.the-variants.{Events, Refused}
 -- the refusals' numbers
 abbrev pub scriptRefusal : Refusal → ℕ
 scriptRefusal TooLong = 1
-scriptRefusal NotAscii = 2
+scriptRefusal BadByte = 2
 scriptRefusal OneWord = 3
 scriptRefusal BadTick = 4
 scriptRefusal UnknownFault = 5
@@ -43,14 +44,6 @@ shortText = 1024
 
 abbrev pub middleText : ℕ
 middleText = 8192
-
--- the line of the first byte over 127, counted from n, or 0 where there is no such byte
-unfoldable pub strayFrom : ℕ → List ℕ → ℕ
-strayFrom n [] = 0
-strayFrom n (b ∷ bs) = cond (ltb 127 b) n (cond (eqb b 10) (strayFrom (suc n) bs) (strayFrom n bs))
-
-unfoldable pub strayLine : List ℕ → ℕ
-strayLine text = strayFrom 1 text
 
 -- the event that a line is, as tick, fault and id: one or none
 abbrev pub lineEvents : Line → List order.Event
@@ -85,7 +78,7 @@ said text = map lineSays (linesOf text)
 unfoldable pub scriptAnswer : List ℕ → ℕ → Script
 scriptAnswer text words =
     cond (ltb longest (length text)) (Refused TooLong 0)
-    (cond (eqb (strayLine text) 0) (linesJudged (words / 3) 1 0 (said text)) (Refused NotAscii (strayLine text)))
+    (cond (eqb (strayLine text) 0) (linesJudged (words / 3) 1 0 (said text)) (Refused BadByte (strayLine text)))
 
 -- the script's events by tick, equal ticks in file order
 unfoldable pub sortedEvents : List ℕ → List order.Event

@@ -6,7 +6,7 @@ use Prim.Native.Nat.{ℕ, _+_, _*_, _≤_}
 use lib.ListN.{length}
 use Rattle.script.specs.Scripts.{scriptRefusal}
 use Rattle.script.specs.declared.line.Refusal.{Refusal}
-use Rattle.script.specs.declared.line.Refusal.the-variants.{TooLong, NotAscii, OneWord, BadTick, UnknownFault, MissingId, BadId, NoRoom}
+use Rattle.script.specs.declared.line.Refusal.the-variants.{TooLong, BadByte, OneWord, BadTick, UnknownFault, MissingId, BadId, NoRoom}
 use Rattle.script.proofs.Laws.{refusal-line}
 use Rattle.script_packed.specs.Packing.{answerWord}
 use borrow.Author.Needs.{needs}
@@ -15,7 +15,7 @@ use Rattle.script_packed.proofs.parse_script.Tie as tie
 
 few : (r : Refusal) → scriptRefusal r ≤ 8
 few TooLong = omega arith
-few NotAscii = omega arith
+few BadByte = omega arith
 few OneWord = omega arith
 few BadTick = omega arith
 few UnknownFault = omega arith
