@@ -125,6 +125,7 @@ plain n (b ∷ bs) h =
     in-words true t e m k = m
     in-words false true e m k = rw e (k .1)
     in-words false false e m k = rw e (k .0)
+
     in-comment : (q : Bool) → ltb 127 b ≡ false → strayFrom (suc n) Words bs ≡ 0 → strayFrom n Between bs ≡ 0
         → cond q (strayFrom (suc n) Words bs) (strayFrom n (spotAfter Between b) bs) ≡ 0
     in-comment true e m k = m
