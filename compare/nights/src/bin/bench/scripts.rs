@@ -18,10 +18,13 @@ pub fn rows() -> Vec<Row> {
     let rising = script(BYTES, |line| line);
     let falling = script(BYTES, |line| 99_999 - line);
     let comments = "# the copper limit of a night\n".repeat(BYTES / 30);
+    let letters = "# Οκτώβρης: χαλκός για τα πρόβατα; 銅の限度、羊の夜\n";
+    let foreign = letters.repeat(BYTES / letters.len());
     let texts = [
         ("64 KiB in file order", rising),
         ("64 KiB in falling order", falling),
         ("64 KiB of comments", comments),
+        ("64 KiB of comments in UTF-8", foreign),
     ];
     let long = texts
         .iter()
