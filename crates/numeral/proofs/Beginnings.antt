@@ -35,7 +35,8 @@ unfolding allDigits
 digits-append [] q = refl
 digits-append (b ∷ bs) q = by-byte (isDigit b) (digits-append bs q)
   where
-    by-byte : (t : Bool) → allDigits (bs ++ q) ≡ (allDigits bs && allDigits q) → (t && allDigits (bs ++ q)) ≡ (t && allDigits bs && allDigits q)
+    by-byte : (t : Bool) → allDigits (bs ++ q) ≡ (allDigits bs && allDigits q)
+        → (t && allDigits (bs ++ q)) ≡ (t && allDigits bs && allDigits q)
     by-byte true h = h
     by-byte false h = refl
 
@@ -116,7 +117,8 @@ some-number [] h =
     record { rest = d .0; number = d .1; says = inl (d .2) }
 some-number (b ∷ bs) h = by-sign (eqb b 43) refl h
   where
-    by-sign : (t : Bool) → eqb b 43 ≡ t → (allDigits (cond t bs (b ∷ bs)) && ltb (valueOf (cond t bs (b ∷ bs))) (2 ^ 64)) ≡ true → Completed (b ∷ bs)
+    by-sign : (t : Bool) → eqb b 43 ≡ t → (allDigits (cond t bs (b ∷ bs)) && ltb (valueOf (cond t bs (b ∷ bs))) (2 ^ 64)) ≡ true
+        → Completed (b ∷ bs)
     by-sign true q k =
         let a = both (allDigits bs) (ltb (valueOf bs) (2 ^ 64)) k in
         let d = completed-digits bs (a .0) (ltb-true (valueOf bs) (2 ^ 64) (a .1)) in
@@ -165,11 +167,13 @@ module _ (p : List ℕ) (b : ℕ) (begun : beginsNumber p ≡ true) (unplussed :
       by-byte false = refl
 
   -- the byte is a digit that fits: a number begins with it too
-  pub goes-on : (n : ℕ) → withDigit (valueOf (unsigned p)) b ≡ Next n → (beginsNumber (p ++ b ∷ []) ≡ true) × (valueOf (unsigned (p ++ b ∷ [])) ≡ n)
+  pub goes-on : (n : ℕ) → withDigit (valueOf (unsigned p)) b ≡ Next n
+      → (beginsNumber (p ++ b ∷ []) ≡ true) × (valueOf (unsigned (p ++ b ∷ [])) ≡ n)
   unfolding withDigit
   goes-on n e = let t = by-tests (isDigit b) (ltb longer (2 ^ 64)) e in (begins-more ∙ t .0, value-more ∙ t .1)
     where
-      by-tests : (d t : Bool) → cond d (cond t (Next longer) (Stopped TooLarge)) (Stopped StrayByte) ≡ Next n → ((d && t) ≡ true) × (longer ≡ n)
+      by-tests : (d t : Bool) → cond d (cond t (Next longer) (Stopped TooLarge)) (Stopped StrayByte) ≡ Next n
+          → ((d && t) ≡ true) × (longer ≡ n)
       by-tests true true e = (refl, cc)
       by-tests true false e = let z : _≡_ {A = ℕ} 0 1 = cc in absurd (omega arith)
       by-tests false t e = let z : _≡_ {A = ℕ} 0 1 = cc in absurd (omega arith)

@@ -1,6 +1,7 @@
--- What the reader's definition means. A word that is accepted says its number in the format's own words, and a word that says a number there
--- is accepted with it; without its reason and its place the answer is the plain one; why and where a word is bad is one of three cases, each
--- said over all bytes up to the place, and at most one fits a word. And the words that people have stumbled on. Assumes nothing.
+-- What the reader's definition means. A word that is accepted says its number in the format's own words, and a word that says a number
+-- there is accepted with it; without its reason and its place the answer is the plain one; why and where a word is bad is one of three
+-- cases, each said over all bytes up to the place, and at most one fits a word. And the words that people have stumbled on. Assumes
+-- nothing.
 use mathlib.Core.Bool.{Bool, true, false, cond, _&&_}
 use mathlib.Core.List.{List, [], _∷_}
 use mathlib.Core.Logic.{_⊎_, inl, inr}
@@ -13,7 +14,7 @@ use lib.Dec.{T, ltb, eqb}
 use lib.ListN.{length, take, getD}
 use lib.Seq.{take-suc, take-all, length-take-le}
 use Rattle.numeral.specs.Digits.{isDigit, allDigits, valueOf}
-use Rattle.numeral.specs.Reading.{unsigned, beginsNumber, stopFrom, stop, whyAt, numberOf, isNumber, GoodOrBad, good, bad, wordJudged, forgetting, Digits, Says, StrayAt, LargeAt, BadAt, missing, stray, large}
+use Rattle.numeral.specs.Reading.{unsigned, beginsNumber, stopFrom, stop, numberOf, isNumber, good, bad, wordJudged, forgetting, Digits, Says, BadAt, missing, stray, large}
 use Rattle.numeral.specs.declared.Why.{Why}
 use Rattle.numeral.specs.declared.Why.the-variants.{NoDigit, StrayByte, TooLarge}
 use Rattle.numeral.specs.declared.Number.{Number}
@@ -51,7 +52,8 @@ unfolding wordJudged unsigned
 judged-sound [] n e = inl (digits-sound [] n e)
 judged-sound (b ∷ bs) n e = by-sign (eqb b 43) refl e
   where
-    by-sign : (t : Bool) → eqb b 43 ≡ t → cond (isNumber (cond t bs (b ∷ bs))) (good (valueOf (cond t bs (b ∷ bs)))) bad ≡ good n → Says (b ∷ bs) n
+    by-sign : (t : Bool) → eqb b 43 ≡ t → cond (isNumber (cond t bs (b ∷ bs))) (good (valueOf (cond t bs (b ∷ bs)))) bad ≡ good n
+        → Says (b ∷ bs) n
     by-sign true q f = inr (bs, ap (λ (x : ℕ). x ∷ bs) (eqb-true b 43 q), digits-sound bs n f)
     by-sign false q f = inl (digits-sound (b ∷ bs) n f)
 
@@ -62,19 +64,22 @@ judged-complete w n (inr s) = rw (s .1) (digits-complete (s .0) n (s .2))
 
 -- ---- without its reason and its place the answer is good or bad
 
-judged-begun : (w : List ℕ) (t : Bool) → beginsNumber w ≡ t → wordJudged w ≡ cond (ltb 0 (length (unsigned w)) && t) (good (valueOf (unsigned w))) bad
+judged-begun : (w : List ℕ) (t : Bool) → beginsNumber w ≡ t
+    → wordJudged w ≡ cond (ltb 0 (length (unsigned w)) && t) (good (valueOf (unsigned w))) bad
 unfolding wordJudged isNumber beginsNumber
 judged-begun w t e =
     by-tests (ltb 0 (length (unsigned w))) (allDigits (unsigned w)) (ltb (valueOf (unsigned w)) (2 ^ 64)) e
   where
-    by-tests : (p q r : Bool) → (q && r) ≡ t → cond (p && q && r) (good (valueOf (unsigned w))) bad ≡ cond (p && t) (good (valueOf (unsigned w))) bad
+    by-tests : (p q r : Bool) → (q && r) ≡ t
+        → cond (p && q && r) (good (valueOf (unsigned w))) bad ≡ cond (p && t) (good (valueOf (unsigned w))) bad
     by-tests true q r f = rw f
     by-tests false q r f = refl
 
 pub reason-forgotten : (w : List ℕ) → forgetting (numberOf w) ≡ wordJudged w
 reason-forgotten w = by-place (eq-or-lt-of-le (stops-at w .within))
   where
-    by-digits : (t : Bool) → ltb 0 (length (unsigned w)) ≡ t → StopsAt w (length w) → beginsNumber w ≡ true → forgetting (numberOf w) ≡ wordJudged w
+    by-digits : (t : Bool) → ltb 0 (length (unsigned w)) ≡ t → StopsAt w (length w) → beginsNumber w ≡ true
+        → forgetting (numberOf w) ≡ wordJudged w
     by-digits true q s b =
         ap forgetting (says-value w s (ltb-true 0 (length (unsigned w)) q)) ∙ sym (judged-begun w true b ∙ rw q)
     by-digits false q s b =
@@ -174,7 +179,8 @@ bad-tells w why place e = by-place (eq-or-lt-of-le (stops-at w .within))
         let p : length w ≡ place = cc in
         rw (← y, ← p) (missing (bare w l))
 
-    by-byte : (t : Bool) → isDigit (getD w (stop w) 0) ≡ t → stop w < length w → Bad (cond t TooLarge StrayByte) (stop w) ≡ Bad why place → BadAt w why place
+    by-byte : (t : Bool) → isDigit (getD w (stop w) 0) ≡ t → stop w < length w → Bad (cond t TooLarge StrayByte) (stop w) ≡ Bad why place
+        → BadAt w why place
     by-byte false q h f =
         let y : StrayByte ≡ why = cc in
         let p : stop w ≡ place = cc in
@@ -207,7 +213,6 @@ unfolding numberOf stop stopFrom beginsNumber unsigned allDigits valueOf
 tells-bad w (missing (inl e)) = rw e
 tells-bad w (missing (inr e)) = rw e
 tells-bad w (stray {place} s) =
-    let b = getD w place 0 in
     says-bad w place (stops-with w place (s .inside) (s .begun) (s .unplussed) (rw (s .other))) (s .inside) ∙ rw (s .other)
 tells-bad w (large {place} s) =
     let n : place ≡ 0 → getD w place 0 ≡ 43 → ⊥ = λ z. digit-no-plus (getD w place 0) (s .digit) in

@@ -1,17 +1,16 @@
--- Where the reading of a word stops: at the first byte with which no number goes on, which is the only place that has a beginning of a number
--- before it and none with it. And what holds while a word is read byte by byte. Assumes nothing.
+-- Where the reading of a word stops: at the first byte with which no number goes on, which is the only place that has a beginning of a
+-- number before it and none with it. And what holds while a word is read byte by byte. Assumes nothing.
 use mathlib.Core.Bool.{Bool, true, false, cond, _&&_}
-use mathlib.Core.List.{List, [], _∷_, _++_}
+use mathlib.Core.List.{List, [], _∷_}
 use mathlib.Core.Path.{_≡_, refl, sym, ap, _∙_}
 use Prim.Native.Nat.{ℕ, zero, suc, _+_, _-_, _^_, _≤_, _<_}
-use native.Mathlib.Nat.{zero-lt-suc}
 use native.Mathlib.Numerals.{add-one}
 use native.Mathlib.Omega.{arith}
-use borrow.Author.Tests.{lt-ltb, le-ltb, eq-eqb, ne-eqb}
-use lib.Dec.{ltb, eqb, lit<}
+use borrow.Author.Tests.{lt-ltb, le-ltb, eq-eqb}
+use lib.Dec.{ltb, eqb}
 use lib.ListN.{length, take, getD}
-use lib.Seq.{take-suc, take-all, length-take-le}
-use Rattle.numeral.specs.Digits.{isDigit, allDigits, valueOf}
+use lib.Seq.{take-suc, take-all}
+use Rattle.numeral.specs.Digits.{allDigits, valueOf}
 use Rattle.numeral.specs.Reading.{unsigned, signBytes, beginsNumber, stopFrom, stop, whyAt, numberOf, withDigit}
 use Rattle.numeral.specs.declared.Why.{Why}
 use Rattle.numeral.specs.declared.Why.the-variants.{NoDigit}

@@ -1,11 +1,12 @@
 -- A state's words read one by one: its flags, its ticks, and whether each flag is 0 or 1. Assumes nothing.
 use Prim.Native.Nat.{ℕ, suc, _+_, _-_, _≤_, _<_}
 use mathlib.Core.Path.{_≡_, refl, sym, ap, _∙_}
-use mathlib.Core.Bool.{Bool, true, false, _&&_}
+use mathlib.Core.Bool.{Bool, true, false, _&&_, and-true, and-assoc}
 use mathlib.Core.List.{List}
 use native.Mathlib.Omega.{arith}
 use native.Mathlib.Numerals.{add-one}
-use borrow.Author.Tests.{le-leb, lt-leb}
+use borrow.Author.Tests.{le-leb, lt-leb, leb-true, leb-false}
+use lib.Bits.{bitOr, or-lt, or-add-and, and-le-l, and-le-r}
 use mir.Val.{boolByte}
 use lib.Dec.{leb, eqb}
 use lib.ListN.{length, take, drop, getD, length-take, length-drop, length-map, List·getD-map}
@@ -41,19 +42,26 @@ pub bit-at : (fs : List Bool) (i : ℕ) → boolByte (getD fs i false) ≡ getD 
 unfolding bits
 bit-at fs i = byte-is (getD fs i false) ∙ sym (List·getD-map bit fs i false)
 
--- ---- whether flags are 0 or 1: the words from i up to 31
+-- ---- whether flags are 0 or 1: what is gathered with `|` is at most 1 exactly if each part is
+or-small : (b c : Bool) (a x : ℕ) → leb a 1 ≡ b → leb x 1 ≡ c → leb (bitOr a x) 1 ≡ b && c
+or-small true true a x e f = le-leb (bitOr a x) 1 (omega (arith, or-lt 1 a x (omega (arith, leb-true a 1 e)) (omega (arith, leb-true x 1 f))))
+or-small true false a x e f = lt-leb (bitOr a x) 1 (omega (arith, leb-false x 1 f, or-add-and a x, and-le-l a x))
+or-small false c a x e f = lt-leb (bitOr a x) 1 (omega (arith, leb-false a 1 e, or-add-and a x, and-le-r a x))
+
+-- the words from i up to 31
 module _ (w : List ℕ) (i : ℕ) (h : i < 31) (e : 31 ≤ length w) where
   next-flag : allBits (take (31 - i) (drop i w)) ≡ leb (getD w i 0) 1 && allBits (take (31 - (i + 1)) (drop (i + 1) w))
   unfolding allBits
   next-flag =
       let z : 31 - i ≡ suc (31 - suc i) = omega arith in rw (z, add-one i, drop-cons w i 0 (omega arith))
 
-  pub flag-on : getD w i 0 ≤ 1 → allBits (take (31 - i) (drop i w)) ≡ allBits (take (31 - (i + 1)) (drop (i + 1) w))
-  flag-on k = next-flag ∙ rw (le-leb (getD w i 0) 1 k)
+  pub gathers : (a : ℕ) → leb a 1 && allBits (take (31 - i) (drop i w)) ≡ leb (bitOr a (getD w i 0)) 1 && allBits (take (31 - (i + 1)) (drop (i + 1) w))
+  gathers a =
+      let rest = allBits (take (31 - (i + 1)) (drop (i + 1) w)) in
+      ap (λ (b : Bool). leb a 1 && b) next-flag
+      ∙ (sym (and-assoc (leb a 1) (leb (getD w i 0) 1) rest)
+      ∙ ap (λ (b : Bool). b && rest) (sym (or-small (leb a 1) (leb (getD w i 0) 1) a (getD w i 0) refl refl)))
 
-  pub flag-stops : 1 < getD w i 0 → allBits (take (31 - i) (drop i w)) ≡ false
-  flag-stops k = next-flag ∙ rw (lt-leb (getD w i 0) 1 k)
-
-pub no-flag-left : (w : List ℕ) (i : ℕ) → 31 ≤ i → allBits (take (31 - i) (drop i w)) ≡ true
+pub all-gathered : (w : List ℕ) (i a : ℕ) → 31 ≤ i → leb a 1 && allBits (take (31 - i) (drop i w)) ≡ leb a 1
 unfolding allBits
-no-flag-left w i h = let z : 31 - i ≡ 0 = omega arith in rw z
+all-gathered w i a h = let z : 31 - i ≡ 0 = omega arith in rw z (and-true (leb a 1))

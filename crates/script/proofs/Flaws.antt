@@ -1,9 +1,9 @@
--- Whose reason a refusal carries: where a script is refused for a bad tick or a bad id, the line that is told has that word, the first or the
--- third, and the number reader says of the word just what is told. So the byte told lies within the text. Assumes nothing.
+-- Whose reason a refusal carries: where a script is refused for a bad tick or a bad id, the line that is told has that word, the first or
+-- the third, and the number reader says of the word just what is told. So the byte told lies within the text. Assumes nothing.
 use mathlib.Core.Bool.{Bool, true, false, cond}
 use mathlib.Core.List.{List, [], _∷_, _++_, map}
 use mathlib.Core.Logic.{_⊎_, inl, inr}
-use mathlib.Core.Path.{_≡_, refl, sym, ap, subst, _∙_}
+use mathlib.Core.Path.{_≡_, refl, ap, subst, _∙_}
 use Prim.Native.Nat.{ℕ, suc, _+_, _/_, _≤_}
 use native.Mathlib.Omega.{arith}
 use lib.ListN.{length}
@@ -14,19 +14,19 @@ use Rattle.numeral.specs.declared.Number.the-variants.{Value, Bad}
 use Rattle.numeral.proofs.Laws.{place-within}
 use Rattle.script_words.specs.Words.{cutAt, strip, linesOf, lineWords}
 use Rattle.script.specs.Faults.{namedBy, needsId}
-use Rattle.script.specs.Lines.{flawAt, withNumber, withWords, withFault, withName, withTick, ofWords, lineSays}
-use Rattle.script.specs.Scripts.{refusalByte, longest, eventsOf, said, scriptAnswer}
+use Rattle.script.specs.Lines.{flawAt, withNumber, withWords, withName, withTick, ofWords, lineSays}
+use Rattle.script.specs.Scripts.{refusalByte, longest, eventsOf, scriptAnswer}
 use Rattle.script.specs.declared.fault.Fault.{Fault}
 use Rattle.script.specs.declared.fault.Named.{Named}
 use Rattle.script.specs.declared.fault.Named.the-variants.{Is, Unknown}
 use Rattle.script.specs.declared.line.Flaw.{Flaw}
 use Rattle.script.specs.declared.line.Line.{Line}
-use Rattle.script.specs.declared.line.Line.the-variants.{Blank, Event, Faulty}
+use Rattle.script.specs.declared.line.Line.the-variants.{Event, Faulty}
 use Rattle.script.specs.declared.line.Refusal.{Refusal}
 use Rattle.script.specs.declared.line.Refusal.the-variants.{TooLong, BadByte, OneWord, BadTick, UnknownFault, MissingId, BadId, NoRoom}
 use Rattle.script.specs.declared.Script.the-variants.{Refused}
 use Rattle.script.proofs.Most.{spread, spread-lines, words-fit}
-use Rattle.script.proofs.FirstFault.{IsEvent, Stops, TextStops, long, stray, fault, text-stops}
+use Rattle.script.proofs.FirstFault.{IsEvent, TextStops, long, stray, fault, text-stops}
 
 -- the words of a line
 abbrev pub wordsIn : List ℕ → List (List ℕ)
@@ -59,7 +59,8 @@ one-way : {A : Type 0} → _≡_ {A = ℕ} 0 1 → A
 one-way e = absurd (omega arith)
 
 -- the reason told is the reader's
-the-reason : (w : List ℕ) (why : Why) (byte : ℕ) (flaw : Flaw) → numberOf w ≡ Bad why byte → flawAt why byte ≡ flaw → numberOf w ≡ Bad (flaw .why) (flaw .byte)
+the-reason : (w : List ℕ) (why : Why) (byte : ℕ) (flaw : Flaw) → numberOf w ≡ Bad why byte → flawAt why byte ≡ flaw
+    → numberOf w ≡ Bad (flaw .why) (flaw .byte)
 the-reason w why byte flaw q z = q ∙ ap (λ (x : Flaw). Bad (x .why) (x .byte)) z
 
 module _ (tick name : List ℕ) (flaw : Flaw) where
@@ -80,7 +81,8 @@ module _ (tick name : List ℕ) (flaw : Flaw) where
   no-name now Unknown ws e = one-way (cc)
   no-name now (Is f) ws e = no-fault now f (needsId f) ws e
 
-  by-tick : (n : Number) (ws : List (List ℕ)) → numberOf tick ≡ n → withTick n name ws ≡ Faulty (BadTick flaw) → BadFirst (tick ∷ name ∷ ws) flaw
+  by-tick : (n : Number) (ws : List (List ℕ)) → numberOf tick ≡ n → withTick n name ws ≡ Faulty (BadTick flaw)
+      → BadFirst (tick ∷ name ∷ ws) flaw
   by-tick (Bad why byte) ws q e =
       let z : flawAt why byte ≡ flaw = cc in
       record { tick = tick; name = name; rest = ws; words = refl; read = the-reason tick why byte flaw q z }
@@ -107,17 +109,20 @@ module _ (tick name : List ℕ) (flaw : Flaw) where
         }
     by-number f s t id ws (Value i) q e = one-way (cc)
 
-    by-words : (f : Fault) → namedBy name ≡ Is f → (b : Bool) → needsId f ≡ b → (ws : List (List ℕ)) → cond b (withWords now f ws) (Event now f) ≡ Faulty (BadId flaw)
+    by-words : (f : Fault) → namedBy name ≡ Is f → (b : Bool) → needsId f ≡ b → (ws : List (List ℕ))
+        → cond b (withWords now f ws) (Event now f) ≡ Faulty (BadId flaw)
         → BadThird (tick ∷ name ∷ ws) flaw
     by-words f s true t [] e = one-way (cc)
     by-words f s true t (id ∷ ws) e = by-number f s t id ws (numberOf id) refl e
     by-words f s false t ws e = one-way (cc)
 
-    by-name : (n : Named) → namedBy name ≡ n → (ws : List (List ℕ)) → withName now n ws ≡ Faulty (BadId flaw) → BadThird (tick ∷ name ∷ ws) flaw
+    by-name : (n : Named) → namedBy name ≡ n → (ws : List (List ℕ)) → withName now n ws ≡ Faulty (BadId flaw)
+        → BadThird (tick ∷ name ∷ ws) flaw
     by-name Unknown s ws e = one-way (cc)
     by-name (Is f) s ws e = by-words f s (needsId f) refl ws e
 
-  by-first : (n : Number) → numberOf tick ≡ n → (ws : List (List ℕ)) → withTick n name ws ≡ Faulty (BadId flaw) → BadThird (tick ∷ name ∷ ws) flaw
+  by-first : (n : Number) → numberOf tick ≡ n → (ws : List (List ℕ)) → withTick n name ws ≡ Faulty (BadId flaw)
+      → BadThird (tick ∷ name ∷ ws) flaw
   by-first (Bad why byte) q ws e = one-way (cc)
   by-first (Value now) q ws e = by-name now q (namedBy name) refl ws e
 
@@ -154,7 +159,8 @@ record From (ls : List (List ℕ)) (n : ℕ) (l : Line) : Type 0 where
   long : length before ≡ n
   says : lineSays line ≡ l
 
-said-from : (ls : List (List ℕ)) (front : List Line) (l : Line) (back : List Line) → map lineSays ls ≡ front ++ l ∷ back → From ls (length front) l
+said-from : (ls : List (List ℕ)) (front : List Line) (l : Line) (back : List Line) → map lineSays ls ≡ front ++ l ∷ back
+    → From ls (length front) l
 said-from [] [] l back e = one-way (cc)
 said-from [] (f ∷ front) l back e = one-way (cc)
 said-from (x ∷ ls) [] l back e = let z : lineSays x ≡ l = cc in record { before = []; line = x; after = ls; split = refl; long = refl; says = z }
@@ -189,7 +195,8 @@ told-at text words r k o e = by-stop (text-stops text words r k e) o
     by-stop (stray h f) o = absurd o
     by-stop {q} {n} (fault h f s w) o = by-why (s .why)
       where
-        by-why : (s .line ≡ Faulty q) ⊎ ((q ≡ NoRoom) × IsEvent (s .line) × (0 + length (eventsOf (s .before)) ≡ words / 3)) → ToldAt text n q
+        by-why : (s .line ≡ Faulty q) ⊎ ((q ≡ NoRoom) × IsEvent (s .line) × (0 + length (eventsOf (s .before)) ≡ words / 3))
+            → ToldAt text n q
         by-why (inl g) =
             let t = said-from (linesOf text) (s .before) (s .line) (s .after) (s .split) in
             record {

@@ -87,7 +87,8 @@ lines-bound (b ∷ bs) = by-byte (eqb b 10) (lines-bound bs)
     by-byte false h = some-line b (linesOf bs) (length bs) h
 
 -- no refusal tells a line past the last that a text can have
-pub refusal-line : (text : List ℕ) (words : ℕ) (r : Refusal) (n : ℕ) → scriptAnswer text words ≡ Refused r n → (n ≤ suc (length text)) × (n ≤ suc longest)
+pub refusal-line : (text : List ℕ) (words : ℕ) (r : Refusal) (n : ℕ) → scriptAnswer text words ≡ Refused r n
+    → (n ≤ suc (length text)) × (n ≤ suc longest)
 refusal-line text words r n e = by-stop (text-stops text words r n e)
   where
     by-stop : {q : Refusal} {k : ℕ} → TextStops text words q k → (k ≤ suc (length text)) × (k ≤ suc longest)

@@ -1,7 +1,6 @@
 -- A refusal that is neither a bad tick nor a bad id has no reason to tell: its why and its byte are 0. Assumes nothing.
 use mathlib.Core.List.{[], _∷_}
 use mathlib.Core.Path.{_≡_, refl}
-use Prim.Native.Nat.{ℕ}
 use denote.Enum.Declared.{tagOf}
 use types.Run.{OneOf, miss}
 use Rattle.script.specs.Scripts.{refusalWhy, refusalByte}

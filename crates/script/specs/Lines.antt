@@ -1,6 +1,6 @@
--- What one line of a fault script says (RULES, "Fault scripts"): cut at its first `#`, stripped and cut into words, it is blank, an event, or
--- faulty, the tests 3 to 7 in this order; 4 and 7 carry why the number reader refused the word, and where. Words after those that are needed
--- are ignored. Assumes nothing.
+-- What one line of a fault script says (RULES, "Fault scripts"): cut at its first `#`, stripped and cut into words, it is blank, an event,
+-- or faulty, the tests 3 to 7 in this order; 4 and 7 carry why the number reader refused the word, and where. Words after those that are
+-- needed are ignored. Assumes nothing.
 use mathlib.Core.Bool.{cond}
 use mathlib.Core.List.{List, [], _∷_}
 use Prim.Native.Nat.{ℕ}

@@ -1,5 +1,6 @@
--- A refusal's word can be taken apart again: its number is 1 to 8 and its reason at most 3, and no text is so long that its line or a byte of a
--- word reaches the factor above it. A count of events stays below every number's factor, so that a number of 0 means events. Assumes nothing.
+-- A refusal's word can be taken apart again: its number is 1 to 8 and its reason at most 3, and no text is so long that its line or a byte
+-- of a word reaches the factor above it. A count of events stays below every number's factor, so that a number of 0 means events. Assumes
+-- nothing.
 use native.Mathlib.Omega.{arith}
 use mathlib.Core.List.{List}
 use mathlib.Core.Path.{_≡_}
@@ -56,7 +57,8 @@ pub record Apart (r : Refusal) (line word : ℕ) : Type 0 where
   pub lines : lineIn word ≡ line
 
 -- of a refusal each part is what was put in
-pub refusal-apart : (text : List ℕ) (words : ℕ) (r : Refusal) (line : ℕ) → scriptAnswer text words ≡ Refused r line → Apart r line (answerWord (Refused r line))
+pub refusal-apart : (text : List ℕ) (words : ℕ) (r : Refusal) (line : ℕ) → scriptAnswer text words ≡ Refused r line
+    → Apart r line (answerWord (Refused r line))
 refusal-apart text words r line e =
     let n = number-range r in
     let y = why-range r in

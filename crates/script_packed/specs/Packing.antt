@@ -1,5 +1,5 @@
--- A script's answer in one word: the count of its events or, for a refusal, its number, why and at which byte a number went bad (0 and 0 where
--- it is no tick and no id), and its line, each times its factor; and how they are taken apart again. Assumes nothing.
+-- A script's answer in one word: the count of its events or, for a refusal, its number, why and at which byte a number went bad (0 and 0
+-- where it is no tick and no id), and its line, each times its factor; and how they are taken apart again. Assumes nothing.
 use Prim.Native.Nat.{ℕ, _+_, _*_, _/_, _%_, _^_}
 use Rattle.script.specs.Scripts.{scriptRefusal, refusalWhy, refusalByte}
 use Rattle.script.specs.declared.Script.{Script}

@@ -1,6 +1,6 @@
 -- What the program `faults` writes (RULES, "Fault scripts"): for a script that is accepted a line `events=`, then for each event a line
--- `tick=`, a line `fault=` and, unless it is heal-all, a line `id=`; for a refusal a line `refusal=` and a line `line=` and, for a tick or an
--- id that is no number, a line `why=` and a line `byte=`. Each ends with a line feed. Assumes nothing.
+-- `tick=`, a line `fault=` and, unless it is heal-all, a line `id=`; for a refusal a line `refusal=` and a line `line=` and, for a tick or
+-- an id that is no number, a line `why=` and a line `byte=`. Each ends with a line feed. Assumes nothing.
 use mathlib.Core.Bool.{cond}
 use mathlib.Core.List.{List, [], _∷_, _++_}
 use Prim.Native.Nat.{ℕ, _+_, _*_}
@@ -106,7 +106,7 @@ eventRoom = 3 * mostReported
 unfoldable pub reportText : List ℕ → List ℕ
 reportText text = answerText (scriptAnswer text eventRoom) (sortedEvents text)
 
--- the bytes that are always enough: 28 for a key and a number on the first line, and 66 for each event
+-- the bytes that are always enough: 28 for a key and a number on the first line, and 66 for each event; a refusal's lines take far fewer
 abbrev pub enough : ℕ
 enough = 28 + 66 * mostReported
 

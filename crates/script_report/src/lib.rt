@@ -22,7 +22,7 @@ const EVENTS: usize = 2048;
 
 const ROOM: usize = 3 * EVENTS;
 
-// The bytes that are always enough: 28 for the line of the count, and 66 for each event.
+// The bytes that are always enough: 28 for the line of the count, and 66 for each event. A refusal's lines take far fewer.
 pub const ENOUGH: usize = 28 + 66 * EVENTS;
 
 // Room for every report. The contract gives its length alone, which is all that lending it asks.

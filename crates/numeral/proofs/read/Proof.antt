@@ -1,5 +1,5 @@
--- `numeral::read` meets its contract. The loop's invariant is the reading under way (Stopping): a number begins with the bytes read so far, of
--- the value at hand. Assumes nothing.
+-- `numeral::read` meets its contract. The loop's invariant is the reading under way (Stopping): a number begins with the bytes read so
+-- far, of the value at hand. Assumes nothing.
 use native.Mathlib.Omega.{arith}
 use mathlib.Core.Path.{sym, _∙_}
 use Prim.Native.Nat.{_-_}

@@ -1,4 +1,5 @@
--- `script_packed::parse_script` meets its contract: what is told of a text is so small that its parts fit below each other. Assumes nothing.
+-- `script_packed::parse_script` meets its contract: what is told of a text is so small that its parts fit below each other. Assumes
+-- nothing.
 use mathlib.Core.Path.{sym, ap, _∙_}
 use lib.ListN.{length}
 use Rattle.script_packed.specs.Packing.{answerWord}
