@@ -241,7 +241,7 @@ fn a_refusal_in_words() {
     );
     explains(
         b"5  crash   18446744073709551616x\n",
-        "bellmantle: line 1: the id is no number: here it passes 18446744073709551615\n    5  crash   18446744073709551616x\n                               ^\n",
+        "bellmantle: line 1: the id is no number: here it passes 18446744073709551615\n    5  crash   18446744073709551616x\n                                  ^\n",
     );
     explains(
         b"5 crash +",
