@@ -4,7 +4,7 @@ use mathlib.Core.Bool.{Bool, true, false, cond}
 use mathlib.Core.List.{List, [], _∷_}
 use Prim.Native.Nat.{ℕ, suc}
 use lib.Dec.{ltb, eqb}
-use Rattle.script_stray.specs.Utf8.{inRange, Awaiting, between, inside, illFormed, sequences, afterFirst, afterThis}
+use Rattle.script_utf8.specs.Utf8.{inRange, Awaiting, between, inside, illFormed, sequences, afterFirst, afterThis}
 use Rattle.script_stray.specs.declared.Spot.{Spot}
 use Rattle.script_stray.specs.declared.Spot.the-variants.{Words, Between, Inside, Astray}
 

@@ -3,7 +3,7 @@
 ghost use mathlib.Core.Path.{_≡_};
 ghost use mathlib.Core.Bool.{true, false};
 ghost use Prim.Native.Nat.{_≤_, _<_};
-ghost use Rattle.script_stray.specs.Utf8.{afterFirst, sequences};
+ghost use Rattle.script_utf8.specs.Utf8.{afterFirst, sequences};
 ghost use Rattle.script_stray.specs.Stray.{strayLine, hasOver};
 ghost use Rattle.script_stray.specs.Walk.{spotOf, spotAfter, spotEnds};
 
