@@ -1,2 +1,3 @@
 -- The walk finds the stray line.
 pub mod Walking
+pub mod Sure

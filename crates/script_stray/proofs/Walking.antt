@@ -23,7 +23,7 @@ strayOn p (b ∷ bs) = strayOn (spotAfter p b) bs
 
 -- ---- in a comment it is so exactly if the UTF-8 is ill formed
 
-spot-of : (s : Awaiting) (b : ℕ) → spotAfter (spotOf s) b ≡ spotOf (afterByte s b)
+pub spot-of : (s : Awaiting) (b : ℕ) → spotAfter (spotOf s) b ≡ spotOf (afterByte s b)
 unfolding spotAfter afterByte
 spot-of between b = refl
 spot-of (inside k lo hi) b = by-range (inRange lo hi b)

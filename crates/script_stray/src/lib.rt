@@ -5,7 +5,7 @@ ghost use mathlib.Core.Bool.{true, false};
 ghost use Prim.Native.Nat.{_≤_, _<_};
 ghost use Rattle.script_utf8.specs.Utf8.{afterFirst, sequences};
 ghost use Rattle.script_stray.specs.Stray.{strayLine, hasOver};
-ghost use Rattle.script_stray.specs.Walk.{spotOf, spotAfter, spotEnds};
+ghost use Rattle.script_stray.specs.Walk.{spotOf, spotAfter, spotEnds, wordsPlain};
 
 // Where the walk over a line stands: before its `#`; in its comment, between two characters; inside one, where a byte from `low` to `high`
 // must come and `more` continuation bytes behind it; or behind a byte that may not be there.
@@ -199,13 +199,37 @@ fn ascii(text: &[u8]) -> bool
     gathered < 128
 }
 
-// The number of the first line of a text that has a byte over 127 before its `#` or ill-formed UTF-8 behind it; 0 where none has. A text
-// with no byte over 127 is not walked over.
+// Whether no byte over 127 stands before a line's `#`. What is behind it is passed over, up to the line feed.
+fn words_plain(text: &[u8]) -> bool
+    ensures { λ b. ⌜ b ≡ wordsPlain false (now (text .entry)) ⌝ }
+{
+    let mut i: usize = 0;
+    while i < text.len() {
+        let b = text[i];
+        if 127 < b {
+            return false;
+        }
+        if b == HASH {
+            i = script_words::find(text, LINE_FEED, i);
+        } else {
+            i += 1;
+        }
+    }
+    true
+}
+
+// The number of the first line of a text that has a byte over 127 before its `#` or ill-formed UTF-8 behind it; 0 where none has. Most
+// texts are told by quick tests: one with no byte over 127, and one that is surely UTF-8 with plain words. Any other is walked over.
 pub fn stray_line(text: &[u8]) -> usize
     ensures { λ r. ⌜ r ≡ strayLine (now (text .entry)) ⌝ }
 {
     if ascii(text) {
         return 0;
+    }
+    if script_utf8::surely(text) {
+        if words_plain(text) {
+            return 0;
+        }
     }
     walk(text)
 }
