@@ -2,3 +2,4 @@
 pub mod Exact
 pub mod Decoding
 pub mod Examples
+pub mod Sure

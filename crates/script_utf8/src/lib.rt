@@ -2,10 +2,13 @@
 ghost use mathlib.Core.Path.{_≡_};
 ghost use mathlib.Core.Bool.{true};
 ghost use Rattle.script_utf8.specs.Utf8.{isUtf8};
+ghost use Rattle.script_utf8.specs.Sure.{wrongAt};
 
 // Whether a byte behind p, q and r, the nearest first, is wrong there: it is a continuation byte exactly if one of them awaits it, it is none that no
 // character has, and behind a first byte that asks for less than all continuation bytes it is one of those.
-fn wrong(r: u8, q: u8, p: u8, e: u8) -> bool {
+fn wrong(r: u8, q: u8, p: u8, e: u8) -> bool
+    ensures { λ b. ⌜ b ≡ wrongAt r q p e ⌝ }
+{
     let continues = (0x80 <= e) & (e < 0xC0);
     let awaited = (0xC2 <= p) | (0xE0 <= q) | (0xF0 <= r);
     let low = ((p == 0xE0) & (e < 0xA0)) | ((p == 0xF0) & (e < 0x90));

@@ -1,0 +1,27 @@
+-- The test of one byte by the three before it, for the code: proofs/Sure says that bytes which pass it are read as the table has them. Assumes nothing.
+use mathlib.Core.Bool.{Bool, Bool·beq, not, _&&_, _||_}
+use Prim.Native.Nat.{ℕ}
+use lib.Dec.{leb, ltb, eqb}
+
+-- a byte of the form 10xxxxxx
+unfoldable pub continues : ℕ → Bool
+continues e = leb 0x80 e && ltb e 0xC0
+
+-- whether a byte must continue a character that p, q or r began, p the nearest
+unfoldable pub awaited : ℕ → ℕ → ℕ → Bool
+awaited r q p = (leb 0xC2 p || leb 0xE0 q) || leb 0xF0 r
+
+-- below, and above, what a first byte p allows behind it
+unfoldable pub tooLow : ℕ → ℕ → Bool
+tooLow p e = (eqb p 0xE0 && ltb e 0xA0) || (eqb p 0xF0 && ltb e 0x90)
+
+unfoldable pub tooHigh : ℕ → ℕ → Bool
+tooHigh p e = (eqb p 0xED && ltb 0x9F e) || (eqb p 0xF4 && ltb 0x8F e)
+
+-- bytes that no character has
+unfoldable pub inNone : ℕ → Bool
+inNone e = (eqb e 0xC0 || eqb e 0xC1) || ltb 0xF4 e
+
+-- whether a byte e is wrong behind p, q and r
+unfoldable pub wrongAt : ℕ → ℕ → ℕ → ℕ → Bool
+wrongAt r q p e = ((not (Bool·beq (continues e) (awaited r q p)) || tooLow p e) || tooHigh p e) || inNone e
