@@ -1,6 +1,6 @@
 -- A text that is UTF-8 and has plain words has no stray line: a line feed is no continuation byte, so that no character runs over it. Assumes
 -- nothing.
-use mathlib.Core.Bool.{Bool, true, false, cond, not}
+use mathlib.Core.Bool.{Bool, true, false, cond, not, _||_}
 use mathlib.Core.List.{List, [], _∷_}
 use mathlib.Core.Path.{_≡_, refl, sym, ap, _∙_}
 use Prim.Native.Nat.{ℕ, zero, suc, _≤_, _<_}
@@ -140,3 +140,9 @@ comment-passed (b ∷ bs) = by-feed (eqb 10 b) refl (comment-passed bs)
     by-feed true d h = sym (ap (λ o. cond o false (wordsPlain (eqb 35 b) bs)) (le-ltb 127 b (omega (arith, eqb-true 10 b d)))
         ∙ ap (λ q. wordsPlain q bs) (ne-eqb 35 b (λ y. omega (arith, y, eqb-true 10 b d))))
     by-feed false d h = h
+
+-- ---- two tests that both fail
+
+pub neither : (p q : Bool) → (p || q) ≡ false → (p ≡ false) × (q ≡ false)
+neither true q e = no-way (sym e)
+neither false q e = (refl, e)

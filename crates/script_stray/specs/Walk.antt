@@ -38,3 +38,7 @@ unfoldable pub wordsPlain : (comment : Bool) → List ℕ → Bool
 wordsPlain comment [] = true
 wordsPlain false (b ∷ bs) = cond (ltb 127 b) false (wordsPlain (eqb 35 b) bs)
 wordsPlain true (b ∷ bs) = wordsPlain (not (eqb 10 b)) bs
+
+-- how many bytes of a comment are looked at together
+abbrev pub blockBytes : ℕ
+blockBytes = 16

@@ -67,16 +67,16 @@ returns c =
     let s = c .before .before .before in
     over (s .before .before .args .text .now) (s .loop .i) (c .before .before .loop-test .taken) (s .loop .inv .1) (c .if1 .taken)
 
-find-requires : tie.Need-find-requires Inv-loop μ-loop
-find-requires c κs = omega arith
+comment-end-requires : tie.Need-comment-end-requires Inv-loop μ-loop
+comment-end-requires c κs = omega arith
 
-further : (c : tie.After-find Inv-loop μ-loop)
+further : (c : tie.After-comment-end Inv-loop μ-loop)
     → let s = c .before .before .before .before .before in
-    (s .loop .i < c .find .result) × (c .find .result ≤ length (s .before .before .args .text .now))
+    (s .loop .i < c .comment-end .result) × (c .comment-end .result ≤ length (s .before .before .args .text .now))
 further c =
     let s = c .before .before .before .before .before in
     onward (s .before .before .args .text .now) (s .loop .i) (c .before .before .before .before .loop-test .taken) (s .loop .inv .1)
-    (c .before .if2 .taken) (c .find .result) (c .find .ensures)
+    (c .before .if2 .taken) (c .comment-end .result) (c .comment-end .ensures)
 
 loop-less : tie.Need-loop-less Inv-loop μ-loop
 loop-less c = omega (arith, further c .0, further c .1)
@@ -86,7 +86,7 @@ loop-again c =
     let s = c .before .before .before .before .before in (
       further c .1,
       passed (s .before .before .args .text .now) (s .loop .i) (c .before .before .before .before .loop-test .taken) (s .loop .inv .1)
-          (c .before .before .if1 .left) (c .before .if2 .taken) (c .find .result) (c .find .ensures),
+          (c .before .before .if1 .left) (c .before .if2 .taken) (c .comment-end .result) (c .comment-end .ensures),
     )
 
 add-i : tie.Need-add-i Inv-loop μ-loop
@@ -112,4 +112,4 @@ returns-2 c =
 pub words-plain-spec : {M : Type 1} → statement M
 words-plain-spec =
     tie.close
-    (tie.spec Inv-loop μ-loop loop-holds shared-slice-read-b returns find-requires loop-less loop-again add-i loop-less-2 loop-again-2 returns-2)
+    (tie.spec Inv-loop μ-loop loop-holds shared-slice-read-b returns comment-end-requires loop-less loop-again add-i loop-less-2 loop-again-2 returns-2)
