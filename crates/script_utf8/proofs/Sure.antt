@@ -142,7 +142,8 @@ begins : (r q p : ℕ) (e : ℕ) → None r q p → (e < 0x80 → afterByte (awa
 unfolding afterByte
 begins r q p e n =
     let n0 = n .0 in let n1 = n .1 in (
-      λ h. ap (λ z. afterByte z e) (by-none r q p n) ∙ at-1 e (omega arith) ∙ sym (by-none q p e (omega arith, omega (arith, n0), omega (arith, n1))),
+      λ h. ap (λ z. afterByte z e) (by-none r q p n) ∙ at-1 e (omega arith)
+          ∙ sym (by-none q p e (omega arith, omega (arith, n0), omega (arith, n1))),
       λ h. ap (λ z. afterByte z e) (by-none r q p n) ∙ sym (by-first q p e h),
     )
 
@@ -152,7 +153,8 @@ module _ (r q p e : ℕ) (w : Settled q p) (f : Fits r q p e) (l : 0x80 ≤ e) (
   Step = afterByte (awaitedBy r q p) e ≡ awaitedBy q p e
 
   -- behind a first byte
-  by-row : (k lo hi : ℕ) (s : Awaiting) → 0xC2 ≤ p → afterFirst p sequences ≡ inside k lo hi → lo ≤ e → e ≤ hi → afterThis k ≡ s → awaitedBy q p e ≡ s → Step
+  by-row : (k lo hi : ℕ) (s : Awaiting) → 0xC2 ≤ p → afterFirst p sequences ≡ inside k lo hi → lo ≤ e → e ≤ hi
+      → afterThis k ≡ s → awaitedBy q p e ≡ s → Step
   unfolding Step
   by-row k lo hi s a g m n u v = moves (awaitedBy r q p) k lo hi e s (by-first r q p a ∙ g) m n u ∙ sym v
 
@@ -200,7 +202,8 @@ module _ (r q p e : ℕ) (w : Settled q p) (f : Fits r q p e) (l : 0x80 ≤ e) (
   later-byte : p < 0xC2 → Step
   later-byte a =
       split q 0xDF
-      (λ b. split r 0xEF (λ c. absurd (f .goes l h (a, omega arith, omega arith))) λ c. last-byte a (omega arith) (by-third r q p a (omega arith) (omega arith)))
+      (λ b. split r 0xEF (λ c. absurd (f .goes l h (a, omega arith, omega arith)))
+      λ c. last-byte a (omega arith) (by-third r q p a (omega arith) (omega arith)))
       λ b. split q 0xEF (λ c. last-byte a (omega arith) (by-three r q p a (omega arith) (omega arith))) λ c. third-of-four a (omega arith)
 
   continued : Step
@@ -251,12 +254,14 @@ third x y z a b f =
     ap (λ s. afterByte s z) (sym (by-none 0 x y n)) ∙ split z 0x7F (λ h. g .0 (omega arith))
     λ l. split z 0xBF (λ h. absurd (f .goes l (omega arith) (omega arith, omega arith, omega arith))) λ h. g .1 (f .no-C0 (omega arith))
 
-pub reads-first : (text : List ℕ) → 3 < length text → getD text 0 0 < 0x80 → getD text 1 0 < 0x80 → wrongAt 0 0 0 (getD text 2 0) ≡ false → Read text 3
+pub reads-first : (text : List ℕ) → 3 < length text → getD text 0 0 < 0x80 → getD text 1 0 < 0x80
+    → wrongAt 0 0 0 (getD text 2 0) ≡ false → Read text 3
 unfolding utf8From afterByte
 reads-first (x ∷ y ∷ z ∷ bs) h a b w =
     let f = fits 0 0 0 z w in
     record {
-      reads = ap (λ s. utf8From (afterByte (afterByte s y) z) bs) (at-1 x (omega arith)) ∙ ap (λ s. utf8From (afterByte s z) bs) (at-1 y (omega arith))
+      reads = ap (λ s. utf8From (afterByte (afterByte s y) z) bs) (at-1 x (omega arith))
+          ∙ ap (λ s. utf8From (afterByte s z) bs) (at-1 y (omega arith))
           ∙ ap (λ s. utf8From s bs) (third x y z a b f);
       settles = record { alone = λ c. omega arith; known = f .last };
     }

@@ -1,4 +1,5 @@
--- The test of one byte by the three before it, for the code: proofs/Sure says that bytes which pass it are read as the table has them. Assumes nothing.
+-- The test of one byte by the three before it, for the code. proofs/Sure says that bytes which pass it are read as the table has them.
+-- Assumes nothing.
 use mathlib.Core.Bool.{Bool, Bool·beq, not, _&&_, _||_}
 use Prim.Native.Nat.{ℕ}
 use lib.Dec.{leb, ltb, eqb}

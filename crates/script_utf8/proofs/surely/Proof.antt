@@ -1,5 +1,5 @@
--- `script_utf8::surely` meets its contract. The loop's invariant: as long as no byte was wrong, what is left is read as the last three bytes have it.
--- Assumes nothing.
+-- `script_utf8::surely` meets its contract. The loop's invariant: as long as no byte was wrong, what is left is read as the last three bytes
+-- have it. Assumes nothing.
 use borrow.Author.Tests.{leb-false, not-true}
 use native.Mathlib.Omega.{arith}
 use mathlib.Core.Bool.{Bool, true, false, not, _||_, false≢true}
@@ -25,12 +25,13 @@ on : (text : List ℕ) (i : ℕ) (bad w : Bool) → 3 ≤ i → i < length text 
 on text i bad w l h inv f e = let a = neither bad w e in reads-on text i l h (inv (a .0)) (sym f ∙ a .1)
 
 ends : (text : List ℕ) (i : ℕ) (bad : Bool) → i ≤ length text → length text ≤ i → (bad ≡ false → Read text i) → bad ≡ false
-    → not ((leb 0xC2 (getD text (length text - 1) 0) || leb 0xE0 (getD text (length text - 2) 0)) || leb 0xF0 (getD text (length text - 3) 0)) ≡ true
-    → isUtf8 text ≡ true
+    → not ((leb 0xC2 (getD text (length text - 1) 0) || leb 0xE0 (getD text (length text - 2) 0))
+    || leb 0xF0 (getD text (length text - 3) 0)) ≡ true → isUtf8 text ≡ true
 unfolding awaited
 ends text i bad l h inv b more =
-    let e : i ≡ length text = omega arith in
-    reads-to-the-end text (subst (Read text) e (inv b)) (not-true (awaited (getD text (length text - 3) 0) (getD text (length text - 2) 0) (getD text (length text - 1) 0)) more)
+    let n : ℕ = length text in
+    let e : i ≡ n = omega arith in
+    reads-to-the-end text (subst (Read text) e (inv b)) (not-true (awaited (getD text (n - 3) 0) (getD text (n - 2) 0) (getD text (n - 1) 0)) more)
 
 abbrev Inv-loop : tie.InvT-loop
 Inv-loop text n bad₀ i₀ bad i = (3 ≤ i) × (i ≤ n) × (bad ≡ false → Read text i)
@@ -128,7 +129,8 @@ returns-4 : tie.Need-returns-4 Inv-loop μ-loop
 returns-4 c =
     let s = c .before .before .before .before .before in
     let t = s .before .before .before .before .before .before .before .before .args .text .now in
-    ends t (s .loop .i) (s .loop .bad) (s .loop .inv .1) (c .before .before .before .before .loop-test .left) (s .loop .inv .2) (c .before .before .before .if3 .left)
+    ends t (s .loop .i) (s .loop .bad) (s .loop .inv .1) (c .before .before .before .before .loop-test .left) (s .loop .inv .2)
+    (c .before .before .before .if3 .left)
 
 pub surely-spec : {M : Type 1} → statement M
 surely-spec =
