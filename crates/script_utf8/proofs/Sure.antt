@@ -11,7 +11,7 @@ use lib.Dec.{leb, ltb, eqb}
 use lib.ListN.{length, drop, getD, drop-of-length-le}
 use lib.Seq.{drop-cons}
 use Rattle.script_utf8.specs.Utf8.{Awaiting, between, inside, sequences, afterFirst, afterThis, afterByte, mayEnd, utf8From, isUtf8}
-use Rattle.script_utf8.specs.Sure.{continues, awaited, tooLow, tooHigh, inNone, wrongAt}
+use Rattle.script_utf8.specs.Sure.{firstContinuation, leastBehindE0, leastBehindF0, mostBehindED, mostBehindF4, continues, awaited, tooLow, tooHigh, inNone, wrongAt}
 use Rattle.script_utf8.proofs.Exact.{in-range, at-1, at-2, at-E0, at-E1, at-ED, at-EE, at-F0, at-F1, at-F4, split}
 
 -- ---- tests
@@ -36,7 +36,7 @@ second-fails false u f e = true-false (sym f)
 -- ---- what a byte that is not wrong satisfies
 
 -- the last three bytes await none
-abbrev None : ℕ → ℕ → ℕ → Type 0
+abbrev pub None : ℕ → ℕ → ℕ → Type 0
 None r q p = (p < 0xC2) × (q < 0xE0) × (r < 0xF0)
 
 record Fits (r q p e : ℕ) : Type 0 where
@@ -63,15 +63,18 @@ awaits-none r q p h = rw (lt-leb 0xC2 p (h .0), lt-leb 0xE0 q (h .1), lt-leb 0xF
 
 below : (e : ℕ) → e < 0x80 → continues e ≡ false
 unfolding continues
-below e h = rw (lt-leb 0x80 e h)
+below e h = rw (lt-leb firstContinuation e (omega arith))
 
 above : (e : ℕ) → 0xC0 ≤ e → continues e ≡ false
 unfolding continues
-above e h = rw (le-leb 0x80 e (omega arith), le-ltb e 0xC0 h)
+above e h = rw (le-leb firstContinuation e (omega arith), le-ltb e 0xC0 h)
 
 within : (e : ℕ) → 0x80 ≤ e → e < 0xC0 → continues e ≡ true
 unfolding continues
-within e l h = rw (le-leb 0x80 e l, lt-ltb e 0xC0 h)
+within e l h = rw (le-leb firstContinuation e (omega arith), lt-ltb e 0xC0 h)
+
+behind : (p b : ℕ) (u : Bool) → p ≡ b → (eqb p b && u) ≡ false → u ≡ false
+behind p b u k e = second-fails (eqb p b) u (eq-eqb p b k) e
 
 fits : (r q p e : ℕ) → wrongAt r q p e ≡ false → Fits r q p e
 unfolding wrongAt tooLow tooHigh inNone
@@ -80,18 +83,18 @@ fits r q p e h =
     let b = neither (not (Bool·beq (continues e) (awaited r q p)) || tooLow p e) (tooHigh p e) (a .0) in
     let d = neither (not (Bool·beq (continues e) (awaited r q p))) (tooLow p e) (b .0) in
     let same = alike (continues e) (awaited r q p) (d .0) in
-    let low = neither (eqb p 0xE0 && ltb e 0xA0) (eqb p 0xF0 && ltb e 0x90) (d .1) in
-    let high = neither (eqb p 0xED && ltb 0x9F e) (eqb p 0xF4 && ltb 0x8F e) (b .1) in
+    let low = neither (eqb p 0xE0 && ltb e leastBehindE0) (eqb p 0xF0 && ltb e leastBehindF0) (d .1) in
+    let high = neither (eqb p 0xED && ltb mostBehindED e) (eqb p 0xF4 && ltb mostBehindF4 e) (b .1) in
     let none = neither (eqb e 0xC0 || eqb e 0xC1) (ltb 0xF4 e) (a .1) in
     let odd = neither (eqb e 0xC0) (eqb e 0xC1) (none .0) in
     record {
       fresh-low = λ k. none-awaited r q p (sym same ∙ below e k);
       fresh-high = λ k. none-awaited r q p (sym same ∙ above e k);
       goes = λ l k n. true-false (sym (within e l k) ∙ same ∙ awaits-none r q p n);
-      over-E0 = λ k. ltb-false e 0xA0 (second-fails (eqb p 0xE0) (ltb e 0xA0) (eq-eqb p 0xE0 k) (low .0));
-      over-F0 = λ k. ltb-false e 0x90 (second-fails (eqb p 0xF0) (ltb e 0x90) (eq-eqb p 0xF0 k) (low .1));
-      under-ED = λ k. ltb-false 0x9F e (second-fails (eqb p 0xED) (ltb 0x9F e) (eq-eqb p 0xED k) (high .0));
-      under-F4 = λ k. ltb-false 0x8F e (second-fails (eqb p 0xF4) (ltb 0x8F e) (eq-eqb p 0xF4 k) (high .1));
+      over-E0 = λ k. let x = ltb-false e leastBehindE0 (behind p 0xE0 (ltb e leastBehindE0) k (low .0)) in omega (arith, x);
+      over-F0 = λ k. let x = ltb-false e leastBehindF0 (behind p 0xF0 (ltb e leastBehindF0) k (low .1)) in omega (arith, x);
+      under-ED = λ k. let x = ltb-false mostBehindED e (behind p 0xED (ltb mostBehindED e) k (high .0)) in omega (arith, x);
+      under-F4 = λ k. let x = ltb-false mostBehindF4 e (behind p 0xF4 (ltb mostBehindF4 e) k (high .1)) in omega (arith, x);
       no-C0 = λ k. split e 0xC0 (λ m. absurd (eqb-false e 0xC0 (odd .0) (omega arith)))
           λ m. split e 0xC1 (λ m'. absurd (eqb-false e 0xC1 (odd .1) (omega arith))) λ m'. omega arith;
       last = ltb-false 0xF4 e (none .1);
@@ -142,7 +145,8 @@ begins : (r q p : ℕ) (e : ℕ) → None r q p → (e < 0x80 → afterByte (awa
 unfolding afterByte
 begins r q p e n =
     let n0 = n .0 in let n1 = n .1 in (
-      λ h. ap (λ z. afterByte z e) (by-none r q p n) ∙ at-1 e (omega arith) ∙ sym (by-none q p e (omega arith, omega (arith, n0), omega (arith, n1))),
+      λ h. ap (λ z. afterByte z e) (by-none r q p n) ∙ at-1 e (omega arith)
+          ∙ sym (by-none q p e (omega arith, omega (arith, n0), omega (arith, n1))),
       λ h. ap (λ z. afterByte z e) (by-none r q p n) ∙ sym (by-first q p e h),
     )
 
@@ -152,7 +156,8 @@ module _ (r q p e : ℕ) (w : Settled q p) (f : Fits r q p e) (l : 0x80 ≤ e) (
   Step = afterByte (awaitedBy r q p) e ≡ awaitedBy q p e
 
   -- behind a first byte
-  by-row : (k lo hi : ℕ) (s : Awaiting) → 0xC2 ≤ p → afterFirst p sequences ≡ inside k lo hi → lo ≤ e → e ≤ hi → afterThis k ≡ s → awaitedBy q p e ≡ s → Step
+  by-row : (k lo hi : ℕ) (s : Awaiting) → 0xC2 ≤ p → afterFirst p sequences ≡ inside k lo hi → lo ≤ e → e ≤ hi
+      → afterThis k ≡ s → awaitedBy q p e ≡ s → Step
   unfolding Step
   by-row k lo hi s a g m n u v = moves (awaitedBy r q p) k lo hi e s (by-first r q p a ∙ g) m n u ∙ sym v
 
@@ -200,7 +205,8 @@ module _ (r q p e : ℕ) (w : Settled q p) (f : Fits r q p e) (l : 0x80 ≤ e) (
   later-byte : p < 0xC2 → Step
   later-byte a =
       split q 0xDF
-      (λ b. split r 0xEF (λ c. absurd (f .goes l h (a, omega arith, omega arith))) λ c. last-byte a (omega arith) (by-third r q p a (omega arith) (omega arith)))
+      (λ b. split r 0xEF (λ c. absurd (f .goes l h (a, omega arith, omega arith)))
+      λ c. last-byte a (omega arith) (by-third r q p a (omega arith) (omega arith)))
       λ b. split q 0xEF (λ c. last-byte a (omega arith) (by-three r q p a (omega arith) (omega arith))) λ c. third-of-four a (omega arith)
 
   continued : Step
@@ -251,12 +257,14 @@ third x y z a b f =
     ap (λ s. afterByte s z) (sym (by-none 0 x y n)) ∙ split z 0x7F (λ h. g .0 (omega arith))
     λ l. split z 0xBF (λ h. absurd (f .goes l (omega arith) (omega arith, omega arith, omega arith))) λ h. g .1 (f .no-C0 (omega arith))
 
-pub reads-first : (text : List ℕ) → 3 < length text → getD text 0 0 < 0x80 → getD text 1 0 < 0x80 → wrongAt 0 0 0 (getD text 2 0) ≡ false → Read text 3
+pub reads-first : (text : List ℕ) → 3 < length text → getD text 0 0 < 0x80 → getD text 1 0 < 0x80
+    → wrongAt 0 0 0 (getD text 2 0) ≡ false → Read text 3
 unfolding utf8From afterByte
 reads-first (x ∷ y ∷ z ∷ bs) h a b w =
     let f = fits 0 0 0 z w in
     record {
-      reads = ap (λ s. utf8From (afterByte (afterByte s y) z) bs) (at-1 x (omega arith)) ∙ ap (λ s. utf8From (afterByte s z) bs) (at-1 y (omega arith))
+      reads = ap (λ s. utf8From (afterByte (afterByte s y) z) bs) (at-1 x (omega arith))
+          ∙ ap (λ s. utf8From (afterByte s z) bs) (at-1 y (omega arith))
           ∙ ap (λ s. utf8From s bs) (third x y z a b f);
       settles = record { alone = λ c. omega arith; known = f .last };
     }
@@ -266,7 +274,7 @@ reads-first [] h a b w = absurd (omega arith)
 
 -- the end, where no byte is awaited
 pub reads-to-the-end : (text : List ℕ) → Read text (length text)
-    → awaited (getD text (length text - 3) 0) (getD text (length text - 2) 0) (getD text (length text - 1) 0) ≡ false → isUtf8 text ≡ true
+    → None (getD text (length text - 3) 0) (getD text (length text - 2) 0) (getD text (length text - 1) 0) → isUtf8 text ≡ true
 unfolding utf8From mayEnd
 reads-to-the-end text w b =
     let n : ℕ = length text in
@@ -274,4 +282,4 @@ reads-to-the-end text w b =
     let q : ℕ = getD text (n - 2) 0 in
     let p : ℕ = getD text (n - 1) 0 in
     w .reads ∙ ap (utf8From (awaitedBy r q p)) (drop-of-length-le text {i = n} (omega arith))
-    ∙ ap (λ s. utf8From s []) (by-none r q p (none-awaited r q p b))
+    ∙ ap (λ s. utf8From s []) (by-none r q p b)

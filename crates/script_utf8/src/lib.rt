@@ -4,8 +4,8 @@ ghost use mathlib.Core.Bool.{true};
 ghost use Rattle.script_utf8.specs.Utf8.{isUtf8};
 ghost use Rattle.script_utf8.specs.Sure.{wrongAt};
 
-// Whether a byte behind p, q and r, the nearest first, is wrong there: it is a continuation byte exactly if one of them awaits it, it is none that no
-// character has, and behind a first byte that asks for less than all continuation bytes it is one of those.
+// Whether a byte behind p, q and r, the nearest first, is wrong there: it is a continuation byte exactly if one of them awaits it, it is
+// none that no character has, and behind a first byte that asks for less than all continuation bytes it is one of those.
 fn wrong(r: u8, q: u8, p: u8, e: u8) -> bool
     ensures { λ b. ⌜ b ≡ wrongAt r q p e ⌝ }
 {

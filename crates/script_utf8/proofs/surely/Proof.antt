@@ -1,5 +1,5 @@
--- `script_utf8::surely` meets its contract. The loop's invariant: as long as no byte was wrong, what is left is read as the last three bytes have it.
--- Assumes nothing.
+-- `script_utf8::surely` meets its contract. The loop's invariant: as long as no byte was wrong, what is left is read as the last three
+-- bytes have it. Assumes nothing.
 use borrow.Author.Tests.{leb-false, not-true}
 use native.Mathlib.Omega.{arith}
 use mathlib.Core.Bool.{Bool, true, false, not, _||_, false≢true}
@@ -9,7 +9,7 @@ use Prim.Native.Nat.{ℕ, _+_, _-_, _≤_, _<_}
 use lib.Dec.{leb}
 use lib.ListN.{length, getD}
 use Rattle.script_utf8.specs.Utf8.{isUtf8}
-use Rattle.script_utf8.specs.Sure.{awaited, wrongAt}
+use Rattle.script_utf8.specs.Sure.{wrongAt}
 use Rattle.script_utf8.proofs.Sure.{neither, Read, reads-on, reads-first, reads-to-the-end}
 use Rattle.script_utf8.proofs.surely.Statement.{statement}
 use Rattle.script_utf8.proofs.surely.Tie as tie
@@ -25,12 +25,20 @@ on : (text : List ℕ) (i : ℕ) (bad w : Bool) → 3 ≤ i → i < length text 
 on text i bad w l h inv f e = let a = neither bad w e in reads-on text i l h (inv (a .0)) (sym f ∙ a .1)
 
 ends : (text : List ℕ) (i : ℕ) (bad : Bool) → i ≤ length text → length text ≤ i → (bad ≡ false → Read text i) → bad ≡ false
-    → not ((leb 0xC2 (getD text (length text - 1) 0) || leb 0xE0 (getD text (length text - 2) 0)) || leb 0xF0 (getD text (length text - 3) 0)) ≡ true
+    → (a b c : ℕ) → a ≤ 0xC2 → b ≤ 0xE0 → c ≤ 0xF0
+    → not ((leb a (getD text (length text - 1) 0) || leb b (getD text (length text - 2) 0)) || leb c (getD text (length text - 3) 0)) ≡ true
     → isUtf8 text ≡ true
-unfolding awaited
-ends text i bad l h inv b more =
+ends text i bad l h inv good a b c ha hb hc more =
+    let r : ℕ = getD text (length text - 3) 0 in
+    let q : ℕ = getD text (length text - 2) 0 in
+    let p : ℕ = getD text (length text - 1) 0 in
     let e : i ≡ length text = omega arith in
-    reads-to-the-end text (subst (Read text) e (inv b)) (not-true (awaited (getD text (length text - 3) 0) (getD text (length text - 2) 0) (getD text (length text - 1) 0)) more)
+    let u = neither (leb a p || leb b q) (leb c r) (not-true ((leb a p || leb b q) || leb c r) more) in
+    let v = neither (leb a p) (leb b q) (u .0) in
+    let x = leb-false a p (v .0) in
+    let y = leb-false b q (v .1) in
+    let z = leb-false c r (u .1) in
+    reads-to-the-end text (subst (Read text) e (inv good)) (omega (arith, x), omega (arith, y), omega (arith, z))
 
 abbrev Inv-loop : tie.InvT-loop
 Inv-loop text n bad₀ i₀ bad i = (3 ≤ i) × (i ≤ n) × (bad ≡ false → Read text i)
@@ -128,7 +136,8 @@ returns-4 : tie.Need-returns-4 Inv-loop μ-loop
 returns-4 c =
     let s = c .before .before .before .before .before in
     let t = s .before .before .before .before .before .before .before .before .args .text .now in
-    ends t (s .loop .i) (s .loop .bad) (s .loop .inv .1) (c .before .before .before .before .loop-test .left) (s .loop .inv .2) (c .before .before .before .if3 .left)
+    ends t (s .loop .i) (s .loop .bad) (s .loop .inv .1) (c .before .before .before .before .loop-test .left) (s .loop .inv .2)
+    (c .before .before .before .if3 .left) _ _ _ (omega arith) (omega arith) (omega arith)
 
 pub surely-spec : {M : Type 1} → statement M
 surely-spec =
