@@ -15,7 +15,7 @@ use Rattle.order.specs.Order.{eventWords, inserted, sorted, Rising, Permuted, o
 use Rattle.order.proofs.Laws.{sorted-rising, sorted-permuted, sorted-stable, length-sorted}
 use Rattle.script_words.specs.Words.{isSpace, notSpace, until, cutAt, joined, linesOf, stripFront, keptBefore, stripEnd, strip, begins}
 use Rattle.script_words.specs.Words as words
-use Rattle.script_stray.specs.Utf8.{inRange, afterFirst, afterThis, afterByte, mayEnd, utf8From}
+use Rattle.script_utf8.specs.Utf8.{inRange, afterFirst, afterThis, afterByte, mayEnd, utf8From}
 use Rattle.script_stray.specs.Stray.{commentOf, hasOver, isStray, firstStray, strayLine}
 use Rattle.script.specs.Faults.{same, namedBy}
 use Rattle.script.specs.Lines.{flawAt, ofWords, lineSays}

@@ -1,5 +1,3 @@
--- The table accepts exactly the encodings of scalar values, and the walk finds the stray line.
-pub mod Exact
-pub mod Examples
-pub mod Decoding
+-- The walk finds the stray line.
 pub mod Walking
+pub mod Sure

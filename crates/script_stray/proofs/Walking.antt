@@ -9,12 +9,12 @@ use borrow.Author.Tests.{ltb-true, ltb-false, le-ltb, ne-eqb}
 use lib.Dec.{ltb, eqb}
 use lib.ListN.{take, drop}
 use Rattle.script_words.specs.Words.{until, cutAt, joined, linesOf}
-use Rattle.script_stray.specs.Utf8.{inRange, Awaiting, between, inside, illFormed, sequences, afterFirst, afterThis, afterByte, mayEnd, utf8From}
+use Rattle.script_utf8.specs.Utf8.{inRange, Awaiting, between, inside, illFormed, sequences, afterFirst, afterThis, afterByte, mayEnd, utf8From}
 use Rattle.script_stray.specs.Stray.{commentOf, hasOver, isStray, firstStray, strayLine}
 use Rattle.script_stray.specs.Walk.{spotOf, spotAfter, spotEnds, strayFrom}
 use Rattle.script_stray.specs.declared.Spot.{Spot}
 use Rattle.script_stray.specs.declared.Spot.the-variants.{Words, Between, Inside, Astray}
-use Rattle.script_stray.proofs.Exact.{at-1}
+use Rattle.script_utf8.proofs.Exact.{at-1}
 
 -- whether what is left of a line is stray, from a spot on
 unfoldable pub strayOn : Spot → List ℕ → Bool
@@ -23,7 +23,7 @@ strayOn p (b ∷ bs) = strayOn (spotAfter p b) bs
 
 -- ---- in a comment it is so exactly if the UTF-8 is ill formed
 
-spot-of : (s : Awaiting) (b : ℕ) → spotAfter (spotOf s) b ≡ spotOf (afterByte s b)
+pub spot-of : (s : Awaiting) (b : ℕ) → spotAfter (spotOf s) b ≡ spotOf (afterByte s b)
 unfolding spotAfter afterByte
 spot-of between b = refl
 spot-of (inside k lo hi) b = by-range (inRange lo hi b)

@@ -6,7 +6,7 @@ use Prim.Native.Nat.{ℕ, suc}
 use lib.Dec.{ltb, eqb}
 use lib.ListN.{drop}
 use Rattle.script_words.specs.Words.{until, cutAt, linesOf}
-use Rattle.script_stray.specs.Utf8.{isUtf8}
+use Rattle.script_utf8.specs.Utf8.{isUtf8}
 
 -- a line's comment: what stands behind its first `#`, byte 35, and nothing where there is none
 unfoldable pub commentOf : List ℕ → List ℕ

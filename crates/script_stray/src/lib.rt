@@ -2,10 +2,13 @@
 // those of well-formed UTF-8 (RFC 3629).
 ghost use mathlib.Core.Path.{_≡_};
 ghost use mathlib.Core.Bool.{true, false};
-ghost use Prim.Native.Nat.{_≤_, _<_};
-ghost use Rattle.script_stray.specs.Utf8.{afterFirst, sequences};
+ghost use Prim.Native.Nat.{_+_, _≤_, _<_};
+ghost use lib.Dec.{eqb};
+ghost use lib.ListN.{length, drop};
+ghost use Rattle.script_words.specs.Words.{until};
+ghost use Rattle.script_utf8.specs.Utf8.{afterFirst, sequences};
 ghost use Rattle.script_stray.specs.Stray.{strayLine, hasOver};
-ghost use Rattle.script_stray.specs.Walk.{spotOf, spotAfter, spotEnds};
+ghost use Rattle.script_stray.specs.Walk.{spotOf, spotAfter, spotEnds, wordsPlain, blockBytes};
 
 // Where the walk over a line stands: before its `#`; in its comment, between two characters; inside one, where a byte from `low` to `high`
 // must come and `more` continuation bytes behind it; or behind a byte that may not be there.
@@ -199,13 +202,80 @@ fn ascii(text: &[u8]) -> bool
     gathered < 128
 }
 
-// The number of the first line of a text that has a byte over 127 before its `#` or ill-formed UTF-8 behind it; 0 where none has. A text
-// with no byte over 127 is not walked over.
+// So many bytes of a comment are looked at together.
+const BLOCK: usize = 16;
+
+// Whether a line feed is among the bytes of a block: all are gathered before one test.
+fn has_feed(text: &[u8], from: usize) -> bool
+    requires { ⌜ from + blockBytes ≤ length (now text) ⌝ }
+    ensures { λ b. ⌜ (b ≡ false → until (eqb 10) (drop from (now (text .entry)))
+        ≡ blockBytes + until (eqb 10) (drop (from + blockBytes) (now (text .entry)))) ⌝ }
+{
+    let mut hit = false;
+    let mut k: usize = 0;
+    while k < BLOCK {
+        hit = hit | (text[from + k] == LINE_FEED);
+        k += 1;
+    }
+    hit
+}
+
+// A place at or behind `from` with no line feed before it, block by block.
+fn near_feed(text: &[u8], from: usize) -> usize
+    requires { ⌜ from ≤ length (now text) ⌝ }
+    ensures within { λ r. ⌜ r ≤ length (now (text .entry)) ⌝ }
+    ensures reached { λ r. ⌜ from + until (eqb 10) (drop from (now (text .entry))) ≡ r + until (eqb 10) (drop r (now (text .entry))) ⌝ }
+{
+    let mut i = from;
+    while BLOCK <= text.len() - i {
+        if has_feed(text, i) {
+            return i;
+        }
+        i += BLOCK;
+    }
+    i
+}
+
+// Where a comment ends: at its line feed, or at the end of the text.
+fn comment_end(text: &[u8], from: usize) -> usize
+    requires { ⌜ from ≤ length (now text) ⌝ }
+    ensures { λ r. ⌜ r ≡ from + until (eqb 10) (drop from (now (text .entry))) ⌝ }
+{
+    let near = near_feed(text, from);
+    script_words::find(text, LINE_FEED, near)
+}
+
+// Whether no byte over 127 stands before a line's `#`. What is behind it is passed over, up to the line feed.
+fn words_plain(text: &[u8]) -> bool
+    ensures { λ b. ⌜ b ≡ wordsPlain false (now (text .entry)) ⌝ }
+{
+    let mut i: usize = 0;
+    while i < text.len() {
+        let b = text[i];
+        if 127 < b {
+            return false;
+        }
+        if b == HASH {
+            i = comment_end(text, i);
+        } else {
+            i += 1;
+        }
+    }
+    true
+}
+
+// The number of the first line of a text that has a byte over 127 before its `#` or ill-formed UTF-8 behind it; 0 where none has. Most
+// texts are told by quick tests: one with no byte over 127, and one that is surely UTF-8 with plain words. Any other is walked over.
 pub fn stray_line(text: &[u8]) -> usize
     ensures { λ r. ⌜ r ≡ strayLine (now (text .entry)) ⌝ }
 {
     if ascii(text) {
         return 0;
+    }
+    if script_utf8::surely(text) {
+        if words_plain(text) {
+            return 0;
+        }
     }
     walk(text)
 }

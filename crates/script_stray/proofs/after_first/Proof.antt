@@ -2,7 +2,7 @@
 use mathlib.Core.Path.{_≡_, sym, ap}
 use native.Mathlib.Omega.{arith}
 use Rattle.script_stray.specs.Walk.{spotOf}
-use Rattle.script_stray.proofs.Exact.{at-1, at-2, at-none-low}
+use Rattle.script_utf8.proofs.Exact.{at-1, at-2, at-none-low}
 use borrow.Author.Needs.{needs}
 use Rattle.script_stray.proofs.after_first.Statement.{statement}
 use Rattle.script_stray.proofs.after_first.Tie as tie

@@ -2,7 +2,7 @@
 use mathlib.Core.Path.{_≡_, sym, ap}
 use native.Mathlib.Omega.{arith}
 use Rattle.script_stray.specs.Walk.{spotOf}
-use Rattle.script_stray.proofs.Exact.{at-F0, at-F1, at-F4, at-none-high}
+use Rattle.script_utf8.proofs.Exact.{at-F0, at-F1, at-F4, at-none-high}
 use Rattle.script_stray.proofs.after_first_of_four.Statement.{statement}
 use Rattle.script_stray.proofs.after_first_of_four.Tie as tie
 

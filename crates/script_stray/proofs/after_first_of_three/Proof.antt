@@ -2,10 +2,10 @@
 use mathlib.Core.Path.{_≡_, sym, ap}
 use Prim.Native.Nat.{ℕ, _≤_, _<_}
 use native.Mathlib.Omega.{arith}
-use Rattle.script_stray.specs.Utf8.{afterFirst, sequences}
+use Rattle.script_utf8.specs.Utf8.{afterFirst, sequences}
 use Rattle.script_stray.specs.Walk.{spotOf}
 use Rattle.script_stray.specs.declared.Spot.the-variants.{Inside}
-use Rattle.script_stray.proofs.Exact.{at-E0, at-E1, at-ED, at-EE, split}
+use Rattle.script_utf8.proofs.Exact.{at-E0, at-E1, at-ED, at-EE, split}
 use Rattle.script_stray.proofs.after_first_of_three.Statement.{statement}
 use Rattle.script_stray.proofs.after_first_of_three.Tie as tie
 

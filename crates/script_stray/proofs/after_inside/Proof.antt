@@ -4,10 +4,10 @@ use mathlib.Core.Bool.{true, false}
 use mathlib.Core.Path.{_≡_, refl}
 use Prim.Native.Nat.{ℕ, zero, suc, _-_, _≤_, _<_}
 use native.Mathlib.Omega.{arith}
-use Rattle.script_stray.specs.Utf8.{inRange, afterThis}
+use Rattle.script_utf8.specs.Utf8.{inRange, afterThis}
 use Rattle.script_stray.specs.Walk.{spotAfter}
 use Rattle.script_stray.specs.declared.Spot.the-variants.{Between, Inside, Astray}
-use Rattle.script_stray.proofs.Exact.{in-range, above-range, below-range}
+use Rattle.script_utf8.proofs.Exact.{in-range, above-range, below-range}
 use borrow.Author.Needs.{needs}
 use Rattle.script_stray.proofs.after_inside.Statement.{statement}
 use Rattle.script_stray.proofs.after_inside.Tie as tie

@@ -5,8 +5,8 @@ use mathlib.Core.Path.{_≡_, _∙_}
 use Prim.Native.Nat.{ℕ, _+_, _-_, _*_, _/_, _%_, _≤_, _<_}
 use native.Mathlib.Omega.{arith}
 use borrow.Author.Tests.{le-leb, lt-leb}
-use Rattle.script_stray.specs.Utf8.{scalar, continuation, encode, sixMore, scalarAt, behindScalar, Utf8Decoded}
-use Rattle.script_stray.proofs.Exact.{encode-1, encode-2, encode-3, encode-4, split}
+use Rattle.script_utf8.specs.Utf8.{scalar, continuation, encode, sixMore, scalarAt, behindScalar, Utf8Decoded}
+use Rattle.script_utf8.proofs.Exact.{encode-1, encode-2, encode-3, encode-4, split}
 
 six-more : (n m : ℕ) → m ≡ n / 64 → sixMore m (continuation n) ≡ n
 six-more n m e = omega arith

@@ -3,7 +3,7 @@ use mathlib.Core.Bool.{true, false}
 use mathlib.Core.List.{List, [], _∷_}
 use mathlib.Core.Path.{_≡_, refl}
 use Prim.Native.Nat.{ℕ}
-use Rattle.script_stray.specs.Utf8.{inRange, afterFirst, afterThis, afterByte, mayEnd, utf8From, isUtf8, encode}
+use Rattle.script_utf8.specs.Utf8.{inRange, afterFirst, afterThis, afterByte, mayEnd, utf8From, isUtf8, encode}
 
 -- U+0000 in two bytes
 pub overlong-refused : isUtf8 (0xC0 ∷ 0x80 ∷ []) ≡ false

@@ -6,7 +6,7 @@ use Prim.Native.Nat.{ℕ, zero, suc, _+_, _-_, _*_, _/_, _%_, _≤_, _<_}
 use native.Mathlib.Omega.{arith}
 use borrow.Author.Tests.{le-leb, lt-leb, leb-true, leb-false}
 use lib.Dec.{leb}
-use Rattle.script_stray.specs.Utf8.{inRange, scalar, continuation, encode, encodeAll, allScalar, Utf8, Awaiting, between, inside, illFormed, Sequence, sequence, sequences, afterFirst, afterThis, afterByte, mayEnd, utf8From, isUtf8, Utf8Exact, Utf8Decodes}
+use Rattle.script_utf8.specs.Utf8.{inRange, scalar, continuation, encode, encodeAll, allScalar, Utf8, Awaiting, between, inside, illFormed, Sequence, sequence, sequences, afterFirst, afterThis, afterByte, mayEnd, utf8From, isUtf8, Utf8Exact, Utf8Decodes}
 
 -- ---- tests
 
