@@ -26,7 +26,7 @@ extern "C" {
 enum bellmantle_refusal {
     /* fault scripts, with a line */
     BELLMANTLE_REFUSED_TOO_LONG = 1,       /* the text is over 65,536 bytes (line 0) */
-    BELLMANTLE_REFUSED_NOT_ASCII = 2,      /* a byte over 127 */
+    BELLMANTLE_REFUSED_BAD_BYTE = 2,       /* a byte over 127 before the #, or a comment that is no UTF-8 */
     BELLMANTLE_REFUSED_ONE_WORD = 3,       /* only one word on the line */
     BELLMANTLE_REFUSED_BAD_TICK = 4,       /* the tick is no number: why and at which byte is told */
     BELLMANTLE_REFUSED_UNKNOWN_FAULT = 5,  /* no such fault; a fault's number over 5 */

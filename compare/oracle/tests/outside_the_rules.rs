@@ -5,10 +5,9 @@ use oracle::plants::{apply, fresh, simulator, verdict};
 use oracle::simulator::{parse_script, Fault, Origin};
 use std::panic::{catch_unwind, AssertUnwindSafe};
 
-/// Foreign letters stand in comments and in words that are ignored.
+/// Foreign letters stand in words that are ignored.
 #[test]
-fn letters_in_comments() {
-    assert_eq!(parse_script("#é"), Ok(vec![]));
+fn letters_in_ignored_words() {
     assert_eq!(parse_script("5 heal 1 é"), Ok(vec![(5, Fault::Heal(1))]));
 }
 

@@ -1,5 +1,6 @@
 //! One script put to a reader, its answer held against the expected one, and the tally of what was met.
 
+use crate::comments::{stray, widest, Stray, STRAYS};
 use crate::expected::{answer, Answer, EVENT_WORDS};
 use crate::inputs::Case;
 use crate::numbers::Flaw;
@@ -80,6 +81,18 @@ pub enum Outcome {
 pub struct Tally {
     accepted: [usize; 3],
     refused: [usize; REFUSED.len()],
+    /// Accepted with a character of two, three or four bytes in a comment as the widest.
+    letters: [usize; 3],
+    /// Refused with 2, by what is wrong.
+    strays: [usize; STRAYS.len()],
+}
+
+/// What a case is about: the sort of its answer, and what its comments have to do with it.
+#[derive(Clone, Copy, Debug, PartialEq, Eq)]
+pub struct Met {
+    pub outcome: Outcome,
+    pub widest: usize,
+    pub stray: Option<Stray>,
 }
 
 /// Each refusal, with each reason where it has one.
@@ -100,7 +113,7 @@ const REFUSED: [(u32, u32); 12] = [
 
 /// Puts a case to a reader. The answer is the expected outcome, if the reader's reply and every word are as
 /// expected.
-pub fn compare(case: Case, reader: &mut impl Reader) -> Result<Outcome, Box<Difference>> {
+pub fn compare(case: Case, reader: &mut impl Reader) -> Result<Met, Box<Difference>> {
     let answer = answer(&case.text, case.room);
     let untouched = pattern(case.room + GUARD);
     let mut words = untouched.clone();
@@ -108,7 +121,7 @@ pub fn compare(case: Case, reader: &mut impl Reader) -> Result<Outcome, Box<Diff
     let seen = Seen { reply, words };
     let expected = asked(&answer, untouched);
     if seen == expected {
-        Ok(outcome(&answer))
+        Ok(met(&case.text, &answer))
     } else {
         Err(Box::new(Difference {
             case,
@@ -152,6 +165,17 @@ pub fn write(answer: &Answer, words: &mut [u64]) -> Reply {
     }
 }
 
+pub fn met(text: &[u8], answer: &Answer) -> Met {
+    let outcome = outcome(answer);
+    let is_stray = outcome == Outcome::Refused(2, 0);
+    let is_read = matches!(answer, Answer::Accepted(_));
+    Met {
+        outcome,
+        widest: if is_read { widest(text) } else { 1 },
+        stray: is_stray.then(|| stray(text).expect("refusal 2 has a stray line").1),
+    }
+}
+
 pub fn outcome(answer: &Answer) -> Outcome {
     match answer {
         Answer::Refused { number, flaw, .. } => Outcome::Refused(*number, flaw.why),
@@ -166,8 +190,15 @@ fn order_shows(neighbours: &[Event]) -> bool {
 }
 
 impl Tally {
-    pub fn add(&mut self, outcome: Outcome) {
-        *self.place(outcome) += 1;
+    pub fn add(&mut self, met: Met) {
+        *self.place(met.outcome) += 1;
+        if met.widest > 1 {
+            self.letters[met.widest - 2] += 1;
+        }
+        if let Some(stray) = met.stray {
+            let place = STRAYS.iter().position(|known| known.0 == stray);
+            self.strays[place.expect("a fault of a comment")] += 1;
+        }
     }
 
     pub fn met(&mut self, outcome: Outcome) -> usize {
@@ -183,6 +214,8 @@ impl Tally {
         self.accepted
             .iter()
             .chain(&self.refused)
+            .chain(&self.letters)
+            .chain(&self.strays)
             .all(|&met| met > 0)
     }
 
@@ -214,6 +247,12 @@ impl fmt::Display for Tally {
                 0 => writeln!(f, "{met:>9}  refusal {number}")?,
                 why => writeln!(f, "{met:>9}  refusal {number}, why {why}")?,
             }
+        }
+        for (place, met) in self.letters.iter().enumerate() {
+            writeln!(f, "{met:>9}  accepted with characters of up to {} bytes", place + 2)?;
+        }
+        for ((_, what), met) in STRAYS.iter().zip(self.strays) {
+            writeln!(f, "{met:>9}  refusal 2: {what}")?;
         }
         Ok(())
     }

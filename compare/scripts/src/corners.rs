@@ -143,8 +143,8 @@ const TEXTS: [&str; 130] = [
     "3 heal-all\n2 heal 2\n1 crash 1\n1 crash x\n1",
 ];
 
-/// Scripts with bytes over 127, which our rules refuse before the Rust is asked.
-const OVER_127: [&[u8]; 8] = [
+/// Scripts with bytes over 127: in a comment the Rust is asked, and elsewhere our rules refuse before that.
+const OVER_127: [&[u8]; 12] = [
     b"\x80",
     b"5\n\x80",
     b"5 crash 1 # \xc3\xa9\n",
@@ -153,6 +153,10 @@ const OVER_127: [&[u8]; 8] = [
     b"\n\n\n\xff\n\xfe",
     b"5\xc2\xa0crash 1",
     b"5 crash 1\xc2\x85\n",
+    b"5 crash 1 # \xc2\x85 \xe2\x80\xa8 6 crash 2\n7 heal 1",
+    b"# \xf0\x9f\x90\x91 # \xe2\x82\xac\n5 heal 1",
+    b"5 heal 1 #\xc3#\xa9",
+    b"5 heal 1 #\xe2\x82\n\xac",
 ];
 
 /// Texts of bytes up to 127, short enough for the sample.

@@ -3,6 +3,7 @@
 //! The Rust decides every accepted script and refusals 3 to 7; what is wrong with a number is a plain evaluation of the rules on its word. Refusals 1, 2 and 8 are our own (RULES, "Fault
 //! scripts"): 1 and 2 come before any run, and 8 asks the Rust how many events a beginning of the text holds.
 
+use crate::comments::stray;
 use crate::numbers::{flaw, Flaw};
 use oracle::script::{run, Event};
 
@@ -35,10 +36,10 @@ pub fn answer(text: &[u8], room: usize) -> Answer {
     if text.len() > LONGEST_TEXT {
         return refused(1, 0);
     }
-    if let Some(place) = text.iter().position(|&byte| byte > 127) {
-        return refused(2, line_of(text, place));
+    if let Some((line, _)) = stray(text) {
+        return refused(2, number(line));
     }
-    let text = std::str::from_utf8(text).expect("bytes up to 127 are UTF-8");
+    let text = std::str::from_utf8(text).expect("lines that are not stray are UTF-8");
     let events = room / EVENT_WORDS;
     let beginnings = beginnings(text);
     let accepted = beginnings.partition_point(|beginning| fits(beginning, events));
@@ -121,10 +122,6 @@ fn beginnings(text: &str) -> Vec<&str> {
         .collect()
 }
 
-fn line_of(text: &[u8], place: usize) -> u32 {
-    number(text[..place].iter().filter(|&&byte| byte == b'\n').count() + 1)
-}
-
 fn number(line: usize) -> u32 {
     u32::try_from(line).expect("a text that is read has fewer than 2^32 lines")
 }
@@ -183,6 +180,13 @@ mod tests {
     fn a_byte_over_127_comes_before_an_earlier_faulty_line() {
         assert_eq!(told(b"5\n\x80", 0), "refusal=2\nline=2\n");
         assert_eq!(told(b"5\n\n# \xff", 0), "refusal=2\nline=3\n");
+    }
+
+    #[test]
+    fn a_comment_may_be_in_any_language() {
+        let text = "5 crash 1 # Süd-Ost\n".as_bytes();
+        assert_eq!(told(text, 3), "events=1\ntick=5\nfault=crash\nid=1\n");
+        assert_eq!(told("5 cräsh 1\n".as_bytes(), 3), "refusal=2\nline=1\n");
     }
 
     #[test]

@@ -1,6 +1,7 @@
 //! The scripts that a run compares: short ones exhaustively, those chosen by hand, and random ones of
 //! several sorts, each with a room for events.
 
+use crate::comments::{commented, exhaustive};
 use crate::corners;
 use crate::expected::{events_found, EVENT_WORDS, LONGEST_TEXT};
 use crate::words::{
@@ -30,6 +31,9 @@ const ROOMS_OF_CORNERS: [usize; 7] = [0, 2, 3, 5, 6, 18, 40];
 /// One random script in so many is about as long as a text may be.
 const LONG_ONCE_IN: usize = 400;
 
+/// One in so many is about the comments.
+const COMMENTED_ONCE_IN: usize = 6;
+
 /// Every case of a run: the fixed ones, whose rooms alone depend on the seed, then `count` random ones.
 pub fn cases(seed: u64, count: usize) -> impl Iterator<Item = Case> {
     let mut rooms = Draws::new(seed);
@@ -55,8 +59,13 @@ pub fn cases(seed: u64, count: usize) -> impl Iterator<Item = Case> {
             room,
         })
     });
+    let comments = exhaustive().map(|text| Case {
+        text,
+        room: 2 * EVENT_WORDS,
+    });
     short
         .chain(numerals)
+        .chain(comments)
         .chain(corners)
         .chain((0..count).map(move |_| random_case(&mut draws)))
 }
@@ -81,6 +90,8 @@ fn nth_text(pieces: &[&str], length: usize, mut number: usize) -> Vec<u8> {
 fn random_case(draws: &mut Draws) -> Case {
     let mut text = if draws.once_in(LONG_ONCE_IN) {
         long_text(draws)
+    } else if draws.once_in(COMMENTED_ONCE_IN) {
+        commented(draws)
     } else {
         short_text(draws)
     };

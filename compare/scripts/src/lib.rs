@@ -1,6 +1,7 @@
 //! Fault scripts compared: what is asked of a reader of scripts, the scripts that it is asked about, the test of its answers, and the
 //! sample of them.
 
+pub mod comments;
 pub mod comparison;
 pub mod corners;
 pub mod expected;

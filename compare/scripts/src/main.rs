@@ -14,7 +14,7 @@ use std::env;
 use std::process::ExitCode;
 
 const USAGE: &str =
-    "usage: scripts [--seed N] [--count N] [--plant comma|order|line|white|word|byte|why|id] [--sample FILE]";
+    "usage: scripts [--seed N] [--count N] [--plant comma|order|line|white|word|byte|why|id|latin|letter] [--sample FILE]";
 
 struct Arguments {
     seed: u64,

@@ -126,10 +126,22 @@ fn texts() -> Vec<Ruled> {
         accepted(vec![b' '; 65_536], &[]),
         refused(vec![b' '; 65_537], 1, 0),
         refused(long, 1, 0),
-        // The line of the first byte over 127, before any other line's fault, in a comment too.
+        // The line of the first byte over 127 that may not be there, before any other line's fault.
         refused(b"5\n\x80", 2, 2),
         refused(b"1,500 crash 1\n# \xff\n", 2, 2),
         refused(b"\xc3\xa9 crash 1\n", 2, 1),
+        // In a comment UTF-8 may stand, and nothing else over 127.
+        accepted("5 crash 1 # Süd-Ost\n", &[(5, "crash", 1)]),
+        accepted("# \u{7ff}\u{800}\u{ffff}\u{10000}\u{10ffff}", &[]),
+        accepted("5 heal 1 # \u{85}\u{2028}6 heal 2\n", &[(5, "heal", 1)]),
+        refused("5 cr\u{e4}sh 1\n", 2, 1),
+        refused(b"\xef\xbb\xbf# mark", 2, 1),
+        refused(b"# \xc0\x80", 2, 1),
+        refused(b"# \xed\xa0\x80", 2, 1),
+        refused(b"# \xf4\x90\x80\x80", 2, 1),
+        refused(b"# \xc3#\xa9", 2, 1),
+        refused(b"5\n# \xe2\x82\n\xac", 2, 2),
+        refused(b"5\n# \xe2\x82", 2, 2),
         accepted("# \x7f\n", &[]),
     ]
 }

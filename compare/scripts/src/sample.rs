@@ -1,7 +1,8 @@
 //! The part of the stored sample that is about scripts: those chosen by hand and random ones with the Rust's answers, each refusal and
 //! limit with the rules' own, and some with a wrong expectation.
 
-use crate::comparison::{outcome, write, Outcome, Tally};
+use crate::comments;
+use crate::comparison::{met, outcome, write, Outcome, Tally};
 use crate::corners;
 use crate::expected::{answer, Answer};
 use crate::inputs::short_text;
@@ -36,6 +37,9 @@ const WANTED: [(Outcome, usize); 12] = [
     (Outcome::Refused(7, 3), 15),
 ];
 
+/// How many scripts are about their comments.
+const COMMENTED: usize = 60;
+
 /// Short rooms, in words, for scripts chosen by hand.
 const SHORT_ROOMS: [usize; 4] = [0, 2, 3, 5];
 
@@ -69,7 +73,7 @@ impl Texts {
         }
         let answer = answer(&text, ROOM);
         self.cases.push(case(&text, ROOM, &answer));
-        self.tally.add(outcome(&answer));
+        self.tally.add(met(&text, &answer));
         self.texts.insert(text);
     }
 
@@ -93,6 +97,9 @@ pub fn sample() -> Sample {
     let mut texts = Texts::default();
     corners::all().for_each(|text| texts.add(text));
     let mut draws = Draws::new(SEED);
+    for _ in 0..COMMENTED {
+        texts.add(comments::commented(&mut draws));
+    }
     while !texts.is_complete() {
         let text = short_text(&mut draws);
         if texts.wants(&text) {

@@ -12,15 +12,15 @@ use lib.Dec.{ltb, eqb}
 use lib.ListN.{length, length-append, length-map}
 use Rattle.script_words.specs.Words.{linesOf}
 use Rattle.script.specs.Lines.{lineSays}
-use Rattle.script.specs.Scripts.{longest, strayLine, eventsOf, linesJudged, said, scriptAnswer}
+use Rattle.script_stray.specs.Stray.{firstStray, strayLine}
+use Rattle.script.specs.Scripts.{longest, eventsOf, linesJudged, said, scriptAnswer}
 use Rattle.script.specs.declared.fault.Fault.{Fault}
 use Rattle.script.specs.declared.line.Line.{Line}
 use Rattle.script.specs.declared.line.Line.the-variants.{Blank, Event, Faulty}
 use Rattle.script.specs.declared.line.Refusal.{Refusal}
-use Rattle.script.specs.declared.line.Refusal.the-variants.{TooLong, NotAscii, NoRoom}
+use Rattle.script.specs.declared.line.Refusal.the-variants.{TooLong, BadByte, NoRoom}
 use Rattle.script.specs.declared.Script.the-variants.{Events, Refused}
 use Rattle.script.proofs.Judging.{accepted}
-use Rattle.script.proofs.Stray.{firstStray, stray-is-first}
 
 -- a line is an event
 abbrev pub IsEvent : Line → Type 0
@@ -102,20 +102,24 @@ first-fault room ls r k e =
 
 -- ---- a whole text that is refused
 
--- which refusal a text meets, and the line told: it is too long, at line 0; or it is not, and has a byte over 127, first at that line; or it has
+-- which refusal a text meets, and the line told: it is too long, at line 0; or it is not, and has a stray line, first that one; or it has
 -- neither, and is refused at the first of its lines that stops
 pub data TextStops (text : List ℕ) (words : ℕ) : Refusal → ℕ → Type 0 where
   long : longest < length text → TextStops text words TooLong 0
-  stray : length text ≤ longest → (firstStray 1 (linesOf text) ≡ 0 → ⊥) → TextStops text words NotAscii (firstStray 1 (linesOf text))
+  stray : length text ≤ longest → (firstStray 1 (linesOf text) ≡ 0 → ⊥) → TextStops text words BadByte (firstStray 1 (linesOf text))
   fault : {r : Refusal} {k : ℕ} → length text ≤ longest → firstStray 1 (linesOf text) ≡ 0 → Stops (words / 3) 1 0 (said text) r k
       → k ≤ length (linesOf text) → TextStops text words r k
+
+stray-is-first : (text : List ℕ) → strayLine text ≡ firstStray 1 (linesOf text)
+unfolding strayLine
+stray-is-first text = refl
 
 pub text-stops : (text : List ℕ) (words : ℕ) (r : Refusal) (k : ℕ) → scriptAnswer text words ≡ Refused r k → TextStops text words r k
 unfolding scriptAnswer
 text-stops text words r k e = by-test (ltb longest (length text)) refl (eqb (strayLine text) 0) refl e
   where
     by-test : (p : Bool) → ltb longest (length text) ≡ p → (q : Bool) → eqb (strayLine text) 0 ≡ q
-        → cond p (Refused TooLong 0) (cond q (linesJudged (words / 3) 1 0 (said text)) (Refused NotAscii (strayLine text))) ≡ Refused r k
+        → cond p (Refused TooLong 0) (cond q (linesJudged (words / 3) 1 0 (said text)) (Refused BadByte (strayLine text))) ≡ Refused r k
         → TextStops text words r k
     by-test true f q g h =
         let a : TooLong ≡ r = cc in
@@ -126,7 +130,7 @@ text-stops text words r k e = by-test (ltb longest (length text)) refl (eqb (str
         fault (ltb-false longest (length text) f) (sym (stray-is-first text) ∙ eqb-true (strayLine text) 0 g) (s .0)
         (omega (arith, s .1, length-map (linesOf text) lineSays))
     by-test false f false g h =
-        let a : NotAscii ≡ r = cc in
+        let a : BadByte ≡ r = cc in
         let b : firstStray 1 (linesOf text) ≡ k = cc (stray-is-first text) in
         rw (← a, ← b) (stray (ltb-false longest (length text) f) (λ z. eqb-false (strayLine text) 0 g (stray-is-first text ∙ z)))
 

@@ -23,7 +23,7 @@ use Rattle.script.specs.declared.line.Flaw.{Flaw}
 use Rattle.script.specs.declared.line.Line.{Line}
 use Rattle.script.specs.declared.line.Line.the-variants.{Event, Faulty}
 use Rattle.script.specs.declared.line.Refusal.{Refusal}
-use Rattle.script.specs.declared.line.Refusal.the-variants.{TooLong, NotAscii, OneWord, BadTick, UnknownFault, MissingId, BadId, NoRoom}
+use Rattle.script.specs.declared.line.Refusal.the-variants.{TooLong, BadByte, OneWord, BadTick, UnknownFault, MissingId, BadId, NoRoom}
 use Rattle.script.specs.declared.Script.the-variants.{Refused}
 use Rattle.script.proofs.Most.{spread, spread-lines, words-fit}
 use Rattle.script.proofs.FirstFault.{IsEvent, TextStops, long, stray, fault, text-stops}
@@ -179,7 +179,7 @@ said-from (x ∷ ls) (f ∷ front) l back e =
 -- the refusals that a line's own words meet
 abbrev OfWords : Refusal → Type 0
 OfWords TooLong = ⊥
-OfWords NotAscii = ⊥
+OfWords BadByte = ⊥
 OfWords OneWord = Unit {0}
 OfWords (BadTick flaw) = Unit {0}
 OfWords UnknownFault = Unit {0}
@@ -248,7 +248,7 @@ word-long {text} t front w rest e =
 
 pub refusal-byte : (text : List ℕ) (words : ℕ) (r : Refusal) (k : ℕ) → scriptAnswer text words ≡ Refused r k → refusalByte r ≤ longest
 refusal-byte text words TooLong k e = omega arith
-refusal-byte text words NotAscii k e = omega arith
+refusal-byte text words BadByte k e = omega arith
 refusal-byte text words OneWord k e = omega arith
 refusal-byte text words (BadTick flaw) k e =
     let t = tick-reason text words flaw k e in

@@ -15,16 +15,17 @@ use Rattle.order.specs.Order.{eventWords, inserted, sorted, Rising, Permuted, o
 use Rattle.order.proofs.Laws.{sorted-rising, sorted-permuted, sorted-stable, length-sorted}
 use Rattle.script_words.specs.Words.{isSpace, notSpace, until, cutAt, joined, linesOf, stripFront, keptBefore, stripEnd, strip, begins}
 use Rattle.script_words.specs.Words as words
+use Rattle.script_utf8.specs.Utf8.{inRange, afterFirst, afterThis, afterByte, mayEnd, utf8From}
+use Rattle.script_stray.specs.Stray.{commentOf, hasOver, isStray, firstStray, strayLine}
 use Rattle.script.specs.Faults.{same, namedBy}
 use Rattle.script.specs.Lines.{flawAt, ofWords, lineSays}
-use Rattle.script.specs.Scripts.{longest, strayFrom, strayLine, eventsOf, linesJudged, said, scriptAnswer, sortedEvents, scriptWords}
+use Rattle.script.specs.Scripts.{longest, eventsOf, linesJudged, said, scriptAnswer, sortedEvents, scriptWords}
 use Rattle.script.specs.declared.line.Refusal.{Refusal}
-use Rattle.script.specs.declared.line.Refusal.the-variants.{TooLong, NotAscii, BadTick, BadId}
+use Rattle.script.specs.declared.line.Refusal.the-variants.{TooLong, BadByte, BadTick, BadId}
 use Rattle.script.specs.declared.Script.{Script}
 use Rattle.script.specs.declared.Script.the-variants.{Events, Refused}
 use Rattle.script.proofs.Judging.{accepted}
 use Rattle.script.proofs.Most.{at-most}
-use Rattle.script.proofs.Stray.{stray-is-first}
 use Rattle.script.proofs.FirstFault.{TextStops, long, stray, fault, text-stops}
 
 -- no event has an earlier tick than one before it
@@ -54,19 +55,19 @@ no-events e = let z : _≡_ {A = ℕ} 0 1 = cc in omega arith
 pub events-counted : (text : List ℕ) (words m : ℕ) → scriptAnswer text words ≡ Events m → (m ≡ length (sortedEvents text)) × (m ≤ words / 3)
 unfolding scriptAnswer sortedEvents
 events-counted text words m e =
-    let j = past-tests (ltb longest (length text)) (eqb (strayLine text) 0) (Refused TooLong 0) (Refused NotAscii (strayLine text)) (linesJudged (words / 3) 1 0 (said text)) m no-events no-events e in
+    let j = past-tests (ltb longest (length text)) (eqb (strayLine text) 0) (Refused TooLong 0) (Refused BadByte (strayLine text)) (linesJudged (words / 3) 1 0 (said text)) m no-events no-events e in
     let a = accepted (words / 3) 1 0 m (said text) j in
     (omega (arith, a .0, length-sorted (eventsOf (said text))), a .1 (omega arith))
 
-stray-bound : (n : ℕ) (text : List ℕ) → strayFrom n text ≤ n + length text
-unfolding strayFrom
+-- a stray line is one of the lines
+stray-bound : (n : ℕ) (ls : List (List ℕ)) → firstStray (suc n) ls ≤ n + length ls
+unfolding firstStray
 stray-bound n [] = omega arith
-stray-bound n (b ∷ bs) = by-byte (ltb 127 b) (eqb b 10) (stray-bound (suc n) bs) (stray-bound n bs)
+stray-bound n (l ∷ ls) = by-line (isStray l) (stray-bound (suc n) ls)
   where
-    by-byte : (p q : Bool) {x y : ℕ} → x ≤ suc n + length bs → y ≤ n + length bs → cond p n (cond q x y) ≤ n + suc (length bs)
-    by-byte true q h k = omega arith
-    by-byte false true h k = omega arith
-    by-byte false false h k = omega arith
+    by-line : (p : Bool) {x : ℕ} → x ≤ suc n + length ls → cond p (suc n) x ≤ n + suc (length ls)
+    by-line true h = omega arith
+    by-line false h = omega arith
 
 joined-long : (b : ℕ) (ls : List (List ℕ)) → length (joined b ls) ≤ suc (length ls)
 unfolding joined
@@ -88,12 +89,11 @@ lines-bound (b ∷ bs) = by-byte (eqb b 10) (lines-bound bs)
 -- no refusal tells a line past the last that a text can have
 pub refusal-line : (text : List ℕ) (words : ℕ) (r : Refusal) (n : ℕ) → scriptAnswer text words ≡ Refused r n
     → (n ≤ suc (length text)) × (n ≤ suc longest)
-unfolding strayLine
 refusal-line text words r n e = by-stop (text-stops text words r n e)
   where
     by-stop : {q : Refusal} {k : ℕ} → TextStops text words q k → (k ≤ suc (length text)) × (k ≤ suc longest)
     by-stop (long h) = (omega arith, omega arith)
-    by-stop (stray h f) = let b = stray-bound 1 text in let s = stray-is-first text in (omega arith, omega arith)
+    by-stop (stray h f) = let b = stray-bound 0 (linesOf text) in let k = lines-bound text in (omega arith, omega arith)
     by-stop (fault h f s k) = let b = lines-bound text in (omega arith, omega arith)
 
 -- an accepted script has no more events than the longest text can hold
@@ -127,5 +127,5 @@ samples :
     × (scriptWords sample (9 ∷ 9 ∷ 9 ∷ 9 ∷ 9 ∷ 9 ∷ 9 ∷ 8 ∷ []) ≡ 5 ∷ 0 ∷ 1 ∷ 20 ∷ 5 ∷ 0 ∷ 9 ∷ 8 ∷ [])
     × (scriptAnswer comma-tick 6 ≡ Refused (BadTick (flawAt StrayByte 1)) 1)
     × (scriptAnswer comma-id 6 ≡ Refused (BadId (flawAt StrayByte 1)) 1)
-unfolding sample comma-tick comma-id scriptWords sortedEvents sorted inserted eventWords eventsOf scriptAnswer strayLine strayFrom linesJudged lineSays ofWords linesOf joined cutAt until strip stripEnd keptBefore stripFront isSpace notSpace begins words.lineWords namedBy same numberOf stop stopFrom beginsNumber unsigned allDigits isDigit valueOf
+unfolding sample comma-tick comma-id scriptWords sortedEvents sorted inserted eventWords eventsOf scriptAnswer strayLine firstStray isStray commentOf hasOver inRange afterFirst afterThis afterByte mayEnd utf8From linesJudged lineSays ofWords linesOf joined cutAt until strip stripEnd keptBefore stripFront isSpace notSpace begins words.lineWords namedBy same numberOf stop stopFrom beginsNumber unsigned allDigits isDigit valueOf
 samples = (refl, refl, refl, refl)

@@ -6,6 +6,5 @@ pub mod Filling
 pub mod Most
 pub mod Reading
 pub mod Laws
-pub mod Stray
 pub mod FirstFault
 pub mod Flaws

@@ -8,12 +8,13 @@ use lib.ListN.{length, drop}
 use Rattle.numeral.specs.Reading.{whyNumber}
 use Rattle.order.specs.Order as order
 use Rattle.script_words.specs.Words.{linesOf}
+use Rattle.script_stray.specs.Stray.{strayLine}
 use Rattle.script.specs.Faults.{faultNumber, faultId}
 use Rattle.script.specs.Lines.{lineSays}
 use Rattle.script.specs.declared.line.Line.{Line}
 use Rattle.script.specs.declared.line.Line.the-variants.{Blank, Event, Faulty}
 use Rattle.script.specs.declared.line.Refusal.{Refusal}
-use Rattle.script.specs.declared.line.Refusal.the-variants.{TooLong, NotAscii, OneWord, BadTick, UnknownFault, MissingId, BadId, NoRoom}
+use Rattle.script.specs.declared.line.Refusal.the-variants.{TooLong, BadByte, OneWord, BadTick, UnknownFault, MissingId, BadId, NoRoom}
 use Rattle.script.specs.declared.Judged.{Judged}
 use Rattle.script.specs.declared.Judged.the-variants.{Found, Stopped}
 use Rattle.script.specs.declared.Script.{Script}
@@ -22,7 +23,7 @@ use Rattle.script.specs.declared.Script.the-variants.{Events, Refused}
 -- the refusals' numbers
 abbrev pub scriptRefusal : Refusal → ℕ
 scriptRefusal TooLong = 1
-scriptRefusal NotAscii = 2
+scriptRefusal BadByte = 2
 scriptRefusal OneWord = 3
 scriptRefusal (BadTick flaw) = 4
 scriptRefusal UnknownFault = 5
@@ -33,7 +34,7 @@ scriptRefusal NoRoom = 8
 -- why the word of a bad tick or a bad id is no number, by the reason's number, and at which byte of the word; 0 for any other refusal
 abbrev pub refusalWhy : Refusal → ℕ
 refusalWhy TooLong = 0
-refusalWhy NotAscii = 0
+refusalWhy BadByte = 0
 refusalWhy OneWord = 0
 refusalWhy (BadTick flaw) = whyNumber (flaw .why)
 refusalWhy UnknownFault = 0
@@ -43,7 +44,7 @@ refusalWhy NoRoom = 0
 
 abbrev pub refusalByte : Refusal → ℕ
 refusalByte TooLong = 0
-refusalByte NotAscii = 0
+refusalByte BadByte = 0
 refusalByte OneWord = 0
 refusalByte (BadTick flaw) = flaw .byte
 refusalByte UnknownFault = 0
@@ -65,14 +66,6 @@ shortText = 1024
 
 abbrev pub middleText : ℕ
 middleText = 8192
-
--- the line of the first byte over 127, counted from n, or 0 where there is no such byte
-unfoldable pub strayFrom : ℕ → List ℕ → ℕ
-strayFrom n [] = 0
-strayFrom n (b ∷ bs) = cond (ltb 127 b) n (cond (eqb b 10) (strayFrom (suc n) bs) (strayFrom n bs))
-
-unfoldable pub strayLine : List ℕ → ℕ
-strayLine text = strayFrom 1 text
 
 -- the event that a line is, as tick, fault and id: one or none
 abbrev pub lineEvents : Line → List order.Event
@@ -107,7 +100,7 @@ said text = map lineSays (linesOf text)
 unfoldable pub scriptAnswer : List ℕ → ℕ → Script
 scriptAnswer text words =
     cond (ltb longest (length text)) (Refused TooLong 0)
-    (cond (eqb (strayLine text) 0) (linesJudged (words / 3) 1 0 (said text)) (Refused NotAscii (strayLine text)))
+    (cond (eqb (strayLine text) 0) (linesJudged (words / 3) 1 0 (said text)) (Refused BadByte (strayLine text)))
 
 -- the script's events by tick, equal ticks in file order
 unfoldable pub sortedEvents : List ℕ → List order.Event

@@ -7,12 +7,11 @@ use line::Line;
 use line::Refusal;
 ghost use mathlib.Core.Path.{_≡_};
 ghost use Prim.Native.Nat.{ℕ, _+_, _*_, _/_, _≤_};
-ghost use lib.Dec.{eqb};
 ghost use lib.ListN.{length};
 ghost use Rattle.basis.specs.Basis.{laid};
 ghost use Rattle.order.specs.Order.{eventWords};
 ghost use Rattle.script.specs.Lines.{lineSays};
-ghost use Rattle.script.specs.Scripts.{scriptRefusal, refusalWhy, refusalByte, longest, shortText, middleText, heldWords, strayLine, linesJudged, judgedLine, said, lineEvents, eventsOf, scriptAnswer, wordsGiven, scriptWords};
+ghost use Rattle.script.specs.Scripts.{scriptRefusal, refusalWhy, refusalByte, longest, shortText, middleText, heldWords, linesJudged, judgedLine, said, lineEvents, eventsOf, scriptAnswer, wordsGiven, scriptWords};
 
 // What a script says: how many events it has, or why it is refused and at which line.
 pub enum Script {
@@ -48,7 +47,7 @@ pub fn refusal_number(refusal: Refusal) -> u64
 {
     match refusal {
         Refusal::TooLong => 1,
-        Refusal::NotAscii => 2,
+        Refusal::BadByte => 2,
         Refusal::OneWord => 3,
         Refusal::BadTick(_) => 4,
         Refusal::UnknownFault => 5,
@@ -78,39 +77,6 @@ pub fn refusal_byte(refusal: Refusal) -> usize
         Refusal::BadId(flaw) => flaw.byte,
         _ => 0,
     }
-}
-
-// Whether no byte is over 127. All bytes are gathered before one test, many of them at a time: a loop
-// that could end early would take one after the other.
-fn ascii(text: &[u8]) -> bool
-    ensures { λ b. ⌜ b ≡ eqb (strayLine (now (text .entry))) 0 ⌝ }
-{
-    let mut gathered: u8 = 0;
-    let mut i: usize = 0;
-    while i < text.len() {
-        gathered = gathered | text[i];
-        i += 1;
-    }
-    gathered < 128
-}
-
-// The line of the first byte over 127, or 0 where there is none.
-fn stray_line(text: &[u8]) -> usize
-    ensures { λ r. ⌜ r ≡ strayLine (now (text .entry)) ⌝ }
-{
-    let mut number: usize = 1;
-    let mut i: usize = 0;
-    while i < text.len() {
-        let b = text[i];
-        if 127 < b {
-            return number;
-        }
-        if b == 10 {
-            number += 1;
-        }
-        i += 1;
-    }
-    0
 }
 
 // One line, with `found` events before it and room for `room` in all. Its event, if it has one, is
@@ -233,8 +199,9 @@ pub fn parse_script(text: &[u8], events: &mut [u64]) -> Script
     if LONGEST < text.len() {
         return Script::Refused(Refusal::TooLong, 0);
     }
-    if !ascii(text) {
-        return Script::Refused(Refusal::NotAscii, stray_line(text));
+    let stray = script_stray::stray_line(text);
+    if stray != 0 {
+        return Script::Refused(Refusal::BadByte, stray);
     }
     if text.len() <= SHORT {
         return read_short(text, events);

@@ -30,8 +30,8 @@ impl Flaw {
 pub enum Refusal {
     // The text is over 65,536 bytes.
     TooLong,
-    // A byte is over 127.
-    NotAscii,
+    // A byte is over 127 before a line's `#`, or what stands behind it is no UTF-8.
+    BadByte,
     // A line has only one word.
     OneWord,
     // The first word is no number.

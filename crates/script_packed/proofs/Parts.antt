@@ -10,7 +10,7 @@ use Rattle.numeral.specs.declared.Why.{Why}
 use Rattle.numeral.specs.declared.Why.the-variants.{NoDigit, StrayByte, TooLarge}
 use Rattle.script.specs.Scripts.{scriptRefusal, refusalWhy, refusalByte, scriptAnswer}
 use Rattle.script.specs.declared.line.Refusal.{Refusal}
-use Rattle.script.specs.declared.line.Refusal.the-variants.{TooLong, NotAscii, OneWord, BadTick, UnknownFault, MissingId, BadId, NoRoom}
+use Rattle.script.specs.declared.line.Refusal.the-variants.{TooLong, BadByte, OneWord, BadTick, UnknownFault, MissingId, BadId, NoRoom}
 use Rattle.script.specs.declared.Script.the-variants.{Events, Refused}
 use Rattle.script.proofs.Laws.{refusal-line, events-most}
 use Rattle.script.proofs.Flaws.{refusal-byte}
@@ -19,7 +19,7 @@ use Rattle.script_packed.specs.Packing.{byteFactor, answerWord, numberIn
 -- ---- how large the parts are
 pub number-range : (r : Refusal) → (1 ≤ scriptRefusal r) × (scriptRefusal r ≤ 8)
 number-range TooLong = (omega arith, omega arith)
-number-range NotAscii = (omega arith, omega arith)
+number-range BadByte = (omega arith, omega arith)
 number-range OneWord = (omega arith, omega arith)
 number-range (BadTick flaw) = (omega arith, omega arith)
 number-range UnknownFault = (omega arith, omega arith)
@@ -34,7 +34,7 @@ why-few TooLarge = omega arith
 
 pub why-range : (r : Refusal) → refusalWhy r ≤ 3
 why-range TooLong = omega arith
-why-range NotAscii = omega arith
+why-range BadByte = omega arith
 why-range OneWord = omega arith
 why-range (BadTick flaw) = why-few (flaw .why)
 why-range UnknownFault = omega arith

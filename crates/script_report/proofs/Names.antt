@@ -10,7 +10,7 @@ use Rattle.script.specs.declared.fault.Fault.{Fault}
 use Rattle.script.specs.declared.fault.Fault.the-variants.{Crash, Restart, Reboot, Partition, Heal, HealAll}
 use Rattle.script.specs.declared.fault.Named.the-variants.{Is}
 use Rattle.script.specs.declared.line.Flaw.{Flaw}
-use Rattle.script.specs.declared.line.Refusal.the-variants.{TooLong, NotAscii, OneWord, BadTick, UnknownFault, MissingId, BadId, NoRoom}
+use Rattle.script.specs.declared.line.Refusal.the-variants.{TooLong, BadByte, OneWord, BadTick, UnknownFault, MissingId, BadId, NoRoom}
 use Rattle.script_report.specs.Report.{nameOf}
 
 -- the name that is written for a fault is read as that fault, of plant 0 where it has one
@@ -26,7 +26,7 @@ name-reads-back HealAll = refl
 -- the refusals of a script by their numbers, the reasons of a number gone bad by theirs, and the faults by theirs, whatever the plant
 pub record Numbered : Type 0 where
   pub tooLong : scriptRefusal TooLong ≡ 1
-  pub aByteOver127 : scriptRefusal NotAscii ≡ 2
+  pub badByte : scriptRefusal BadByte ≡ 2
   pub onlyOneWord : scriptRefusal OneWord ≡ 3
   pub badTick : (flaw : Flaw) → scriptRefusal (BadTick flaw) ≡ 4
   pub unknownFault : scriptRefusal UnknownFault ≡ 5
@@ -47,7 +47,7 @@ pub numbered : Numbered
 numbered =
     record {
       tooLong = refl;
-      aByteOver127 = refl;
+      badByte = refl;
       onlyOneWord = refl;
       badTick = λ flaw. refl;
       unknownFault = refl;

@@ -14,7 +14,7 @@ use Rattle.script.specs.Faults.{crash, restart, reboot, partition, heal, healAl
 use Rattle.script.specs.Scripts.{scriptRefusal, scriptAnswer, sortedEvents}
 use Rattle.script.specs.declared.line.Flaw.{Flaw}
 use Rattle.script.specs.declared.line.Refusal.{Refusal}
-use Rattle.script.specs.declared.line.Refusal.the-variants.{TooLong, NotAscii, OneWord, BadTick, UnknownFault, MissingId, BadId, NoRoom}
+use Rattle.script.specs.declared.line.Refusal.the-variants.{TooLong, BadByte, OneWord, BadTick, UnknownFault, MissingId, BadId, NoRoom}
 use Rattle.script.specs.declared.Script.{Script}
 use Rattle.script.specs.declared.Script.the-variants.{Events, Refused}
 use Rattle.script_report.specs.declared.Reported.{Reported}
@@ -78,7 +78,7 @@ flawText flaw = numberLine whyKey (whyNumber (flaw .why)) ++ numberLine byteKey 
 
 abbrev pub reasonText : Refusal → List ℕ
 reasonText TooLong = []
-reasonText NotAscii = []
+reasonText BadByte = []
 reasonText OneWord = []
 reasonText (BadTick flaw) = flawText flaw
 reasonText UnknownFault = []

@@ -8,8 +8,8 @@ use std::fmt;
 pub enum Refusal {
     /// 1: the text is over 65,536 bytes.
     TooLong,
-    /// 2: a byte over 127.
-    NotAscii,
+    /// 2: a byte over 127 before the `#`, or a comment that is no UTF-8.
+    BadByte,
     /// 3: only one word on the line.
     OneWord,
     /// 4: the tick is no number.
@@ -77,7 +77,11 @@ pub enum Refusal {
 /// Each refusal with its number and its words.
 const ALL: [(Refusal, u64, &str); 33] = [
     (Refusal::TooLong, 1, "the text is over 65,536 bytes"),
-    (Refusal::NotAscii, 2, "a byte over 127"),
+    (
+        Refusal::BadByte,
+        2,
+        "a byte over 127 before the #, or a comment that is no UTF-8",
+    ),
     (Refusal::OneWord, 3, "only one word on the line"),
     (Refusal::BadTick, 4, "the tick is no number"),
     (Refusal::UnknownFault, 5, "there is no such fault"),

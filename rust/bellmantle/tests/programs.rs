@@ -115,6 +115,20 @@ fn the_sample_of_the_rules() {
 }
 
 #[test]
+fn a_comment_in_another_language() {
+    let script = "5 crash 1 # Süd-Ost, Οκτώβρης, 羊 🐑\n".as_bytes();
+    reads(script, "events=1\ntick=5\nfault=crash\nid=1\n");
+    // a character in two pieces
+    let (front, rest) = script.split_at(14);
+    says(
+        &[front, rest],
+        Duration::from_millis(100),
+        "events=1\ntick=5\nfault=crash\nid=1\n",
+        0,
+    );
+}
+
+#[test]
 fn nothing_is_a_script_without_events() {
     reads(b"", "events=0\n");
 }
@@ -157,7 +171,8 @@ fn a_byte_more_is_too_long() {
 #[test]
 fn every_refusal_with_its_line() {
     refuses(&vec![b' '; LONGEST + 1], 1, 0);
-    refuses("5 crash 1\n6 crash 2 # Süd\n".as_bytes(), 2, 2);
+    refuses("5 crash 1\n6 cräsh 2\n".as_bytes(), 2, 2);
+    refuses(b"5 crash 1 # S\xfcd\n", 2, 1);
     refuses(b"\n\n5\n", 3, 3);
     refuses_number(b"1,500 crash 1\n", 4, 1, 2, 1);
     refuses(b"5 crash 1\n5 Crash 1\n", 5, 2);
@@ -202,7 +217,11 @@ fn a_refusal_in_words() {
     );
     explains(
         b"\n\t5 cr\xc3\xa4sh 1\r\n",
-        "bellmantle: line 2: there is a byte over 127; a script is plain ASCII\n     5 cr??sh 1 \n",
+        "bellmantle: line 2: there is a byte over 127 before the #, or a comment that is no UTF-8\n     5 cr??sh 1 \n",
+    );
+    explains(
+        "1,500 crash 1 # Süd \u{9b}2J \u{202e} Ost\n".as_bytes(),
+        "bellmantle: line 1: the tick is no number: this byte is no digit\n    1,500 crash 1 # Süd ?2J ? Ost\n     ^\n",
     );
     explains(
         b"5",

@@ -63,7 +63,7 @@ fn every_refusal() {
     let long = vec![b' '; 65_537];
     let cases: [(&[u8], Refusal, u32); 7] = [
         (&long, Refusal::TooLong, 0),
-        (b"\n\x80", Refusal::NotAscii, 2),
+        (b"\n\x80", Refusal::BadByte, 2),
         (b"5", Refusal::OneWord, 1),
         (b"-0 crash 1", Refusal::BadTick, 1),
         (b"5 Crash 1", Refusal::UnknownFault, 1),
@@ -75,6 +75,25 @@ fn every_refusal() {
         assert_eq!((error.refusal, error.line), (refusal, line));
         let is_about_a_number = matches!(refusal, Refusal::BadTick | Refusal::BadId);
         assert_eq!(error.flaw.is_some(), is_about_a_number);
+    }
+}
+
+#[test]
+fn comments_in_utf_8() {
+    let script = "5 crash 1 # Süd-Ost 羊 🐑\n6 heal-all#é".as_bytes();
+    let script = parse_script(script).unwrap();
+    assert_eq!(script, [(5, Fault::Crash(1)), (6, Fault::HealAll)]);
+    let strays: [(&[u8], u32); 6] = [
+        ("5 cräsh 1".as_bytes(), 1),
+        (b"#\n#\xc0\x80", 2),
+        (b"#\xed\xa0\x80", 1),
+        (b"#\xf4\x90\x80\x80", 1),
+        (b"\n#\xe2\x82\n\xac", 2),
+        (b"#\xe2\x82", 1),
+    ];
+    for (text, line) in strays {
+        let error = parse_script(text).unwrap_err();
+        assert_eq!((error.refusal, error.line), (Refusal::BadByte, line));
     }
 }
 

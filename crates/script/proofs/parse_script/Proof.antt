@@ -1,14 +1,13 @@
 -- `script::parse_script` meets its contract: the tests come in the definition's order. Assumes nothing.
-use borrow.Author.Tests.{lt-ltb, le-ltb}
-use mathlib.Core.Bool.{Bool, true, false, not, false≢true}
+use borrow.Author.Tests.{lt-ltb, le-ltb, eq-eqb, ne-eqb}
 use mathlib.Core.List.{List}
 use mathlib.Core.Path.{_≡_, sym, ap, _∙_}
 use Prim.Native.Nat.{ℕ, _/_, _≤_, _<_}
-use lib.Dec.{eqb}
 use lib.ListN.{length}
-use Rattle.script.specs.Scripts.{longest, strayLine, said, linesJudged, scriptAnswer, wordsGiven, scriptWords}
+use Rattle.script_stray.specs.Stray.{strayLine}
+use Rattle.script.specs.Scripts.{longest, said, linesJudged, scriptAnswer, wordsGiven, scriptWords}
 use Rattle.script.specs.declared.line.Refusal.{Refusal}
-use Rattle.script.specs.declared.line.Refusal.the-variants.{TooLong, NotAscii}
+use Rattle.script.specs.declared.line.Refusal.the-variants.{TooLong, BadByte}
 use Rattle.script.specs.declared.Script.{Script}
 use Rattle.script.specs.declared.Script.the-variants.{Refused}
 use borrow.Author.Needs.{needs}
@@ -21,15 +20,13 @@ module _ (text : List ℕ) (n : ℕ) where
   unfolding scriptAnswer
   too-long h = rw (lt-ltb longest (length text) h)
 
-  stray : (b : Bool) → length text ≤ longest → b ≡ eqb (strayLine text) 0 → not b ≡ true → scriptAnswer text n ≡ Refused NotAscii (strayLine text)
+  stray : (k : ℕ) → length text ≤ longest → k ≡ strayLine text → (k ≡ 0 → ⊥) → scriptAnswer text n ≡ Refused BadByte k
   unfolding scriptAnswer
-  stray true h e s = absurd (false≢true s)
-  stray false h e s = rw (le-ltb longest (length text) h, ← e)
+  stray k h e z = rw (le-ltb longest (length text) h, ← e, ne-eqb k 0 z)
 
-  judges : (b : Bool) → length text ≤ longest → b ≡ eqb (strayLine text) 0 → not b ≡ false → scriptAnswer text n ≡ linesJudged (n / 3) 1 0 (said text)
+  judges : (k : ℕ) → length text ≤ longest → k ≡ strayLine text → k ≡ 0 → scriptAnswer text n ≡ linesJudged (n / 3) 1 0 (said text)
   unfolding scriptAnswer
-  judges true h e s = rw (le-ltb longest (length text) h, ← e)
-  judges false h e s = absurd (false≢true (sym s))
+  judges k h e z = rw (le-ltb longest (length text) h, ← e, eq-eqb k 0 z)
 
 -- ---- the words, by the answer
 module _ (text words : List ℕ) where
@@ -46,18 +43,15 @@ returns c =
     let a = c .before .before .before .args in
     refused (a .text .now) (a .events .now) TooLong 0 (too-long (a .text .now) (length (a .events .now)) (c .if1 .taken))
 
-ascii-requires : tie.Need-ascii-requires
-ascii-requires c κs = tt
-
 stray-line-requires : tie.Need-stray-line-requires
 stray-line-requires c κs = tt
 
 returns-2 : tie.Need-returns-2
 returns-2 c =
     let i = c .before in
-    let a = i .before .before .before .before .before .args in
-    let e = stray (a .text .now) (length (a .events .now)) (i .before .ascii .result) (i .before .before .if1 .left) (i .before .ascii .ensures) (i .if2 .taken) in
-    refused (a .text .now) (a .events .now) NotAscii (c .stray-line .result) (e ∙ ap (Refused NotAscii) (sym (c .stray-line .ensures)))
+    let a = i .before .before .before .before .args in
+    refused (a .text .now) (a .events .now) BadByte (i .stray-line .result)
+    (stray (a .text .now) (length (a .events .now)) (i .stray-line .result) (i .before .if1 .left) (i .stray-line .ensures) (c .if2 .taken))
 
 read-short-requires : tie.Need-read-short-requires
 read-short-requires c κs = search needs
@@ -71,7 +65,7 @@ returns-3 c =
     let i = c .before .before .before .before .before .before in
     let a = c .before .before .before .before .before .before .before .before .before .before .args in
     answered (a .text .now) (a .events .now) (r .read-short .result) (linesJudged (length (a .events .now) / 3) 1 0 (said (a .text .now))) (r .read-short .last .1 .0)
-    (judges (a .text .now) (length (a .events .now)) (i .ascii .result) (i .before .if1 .left) (i .ascii .ensures) (c .before .before .before .before .before .if2 .left))
+    (judges (a .text .now) (length (a .events .now)) (i .stray-line .result) (i .before .if1 .left) (i .stray-line .ensures) (c .before .before .before .before .before .if2 .left))
     (r .read-short .ensures .0) (r .read-short .ensures .1)
 
 read-middle-requires : tie.Need-read-middle-requires
@@ -86,7 +80,7 @@ returns-4 c =
     let i = c .before .before .before .before .before .before .before in
     let a = c .before .before .before .before .before .before .before .before .before .before .before .args in
     answered (a .text .now) (a .events .now) (r .read-middle .result) (linesJudged (length (a .events .now) / 3) 1 0 (said (a .text .now))) (r .read-middle .last .1 .0)
-    (judges (a .text .now) (length (a .events .now)) (i .ascii .result) (i .before .if1 .left) (i .ascii .ensures) (c .before .before .before .before .before .before .if2 .left))
+    (judges (a .text .now) (length (a .events .now)) (i .stray-line .result) (i .before .if1 .left) (i .stray-line .ensures) (c .before .before .before .before .before .before .if2 .left))
     (r .read-middle .ensures .0) (r .read-middle .ensures .1)
 
 read-long-requires : tie.Need-read-long-requires
@@ -101,7 +95,7 @@ returns-5 c =
     let i = c .before .before .before .before .before .before .before in
     let a = c .before .before .before .before .before .before .before .before .before .before .before .args in
     answered (a .text .now) (a .events .now) (r .read-long .result) (linesJudged (length (a .events .now) / 3) 1 0 (said (a .text .now))) (r .read-long .last .1 .0)
-    (judges (a .text .now) (length (a .events .now)) (i .ascii .result) (i .before .if1 .left) (i .ascii .ensures) (c .before .before .before .before .before .before .if2 .left))
+    (judges (a .text .now) (length (a .events .now)) (i .stray-line .result) (i .before .if1 .left) (i .stray-line .ensures) (c .before .before .before .before .before .before .if2 .left))
     (r .read-long .ensures .0) (r .read-long .ensures .1)
 
 pub parse-script-spec : {M : Type 1} → statement M
@@ -109,7 +103,6 @@ parse-script-spec =
     tie.close
     (tie.spec
     returns
-    ascii-requires
     stray-line-requires
     returns-2
     read-short-requires

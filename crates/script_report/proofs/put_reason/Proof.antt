@@ -10,7 +10,7 @@ use Rattle.numeral.specs.declared.Why.{Why}
 use Rattle.numeral.specs.declared.Why.the-variants.{NoDigit, StrayByte, TooLarge}
 use Rattle.script.specs.Scripts.{refusalWhy, refusalByte}
 use Rattle.script.specs.declared.line.Refusal.{Refusal}
-use Rattle.script.specs.declared.line.Refusal.the-variants.{TooLong, NotAscii, OneWord, BadTick, UnknownFault, MissingId, BadId, NoRoom}
+use Rattle.script.specs.declared.line.Refusal.the-variants.{TooLong, BadByte, OneWord, BadTick, UnknownFault, MissingId, BadId, NoRoom}
 use Rattle.script_report.specs.Report.{numberLine, whyKey, byteKey, reasonText}
 use Rattle.script_report.proofs.Laying.{laid-two}
 use Rattle.script_report.proofs.Lengths.{decimal-most, number-line}
@@ -25,7 +25,7 @@ why-some TooLarge e = omega arith
 
 no-lines : (r : Refusal) → refusalWhy r ≡ 0 → reasonText r ≡ []
 no-lines TooLong e = refl
-no-lines NotAscii e = refl
+no-lines BadByte e = refl
 no-lines OneWord e = refl
 no-lines (BadTick flaw) e = absurd (why-some (flaw .why) e)
 no-lines UnknownFault e = refl
@@ -35,7 +35,7 @@ no-lines NoRoom e = refl
 
 both-lines : (r : Refusal) → (refusalWhy r ≡ 0 → ⊥) → reasonText r ≡ numberLine whyKey (refusalWhy r) ++ numberLine byteKey (refusalByte r)
 both-lines TooLong h = absurd (h refl)
-both-lines NotAscii h = absurd (h refl)
+both-lines BadByte h = absurd (h refl)
 both-lines OneWord h = absurd (h refl)
 both-lines (BadTick flaw) h = refl
 both-lines UnknownFault h = absurd (h refl)

@@ -3,6 +3,7 @@
 use crate::timing::{both, timed, Row};
 use bellmantle::EVENT_WORDS;
 use nights::original;
+use std::time::Duration;
 
 const BYTES: usize = 65_536;
 const TIMES: usize = 400;
@@ -18,10 +19,13 @@ pub fn rows() -> Vec<Row> {
     let rising = script(BYTES, |line| line);
     let falling = script(BYTES, |line| 99_999 - line);
     let comments = "# the copper limit of a night\n".repeat(BYTES / 30);
+    let letters = "# Οκτώβρης: χαλκός για τα πρόβατα; 銅の限度、羊の夜\n";
+    let foreign = letters.repeat(BYTES / letters.len());
     let texts = [
         ("64 KiB in file order", rising),
         ("64 KiB in falling order", falling),
         ("64 KiB of comments", comments),
+        ("64 KiB of comments in UTF-8", foreign),
     ];
     let long = texts
         .iter()
@@ -33,7 +37,8 @@ pub fn rows() -> Vec<Row> {
             words(name, &text, SHORT_TIMES),
         ]
     });
-    long.chain(short).collect()
+    let tested = bytes(texts[3].0, &texts[3].1, TIMES);
+    long.chain([tested]).chain(short).collect()
 }
 
 /// A script in file order of about so many bytes, to lent words.
@@ -83,20 +88,38 @@ fn events(name: &str, text: &str, times: usize) -> Row {
 
 /// Ours to lent words, which are not cleared first.
 fn words(name: &str, text: &str, times: usize) -> Row {
+    let rust = || timed(|| original::parse_script(text).expect("the script is good")).0;
+    lent(
+        format!("the same, ours to lent words, {name}"),
+        text,
+        times,
+        rust,
+    )
+}
+
+/// Both from bytes: the Rust tests them for UTF-8 first, as whoever reads a file must.
+fn bytes(name: &str, text: &str, times: usize) -> Row {
+    let rust = || {
+        let parse = || {
+            let text = std::str::from_utf8(text.as_bytes()).expect("the text is UTF-8");
+            original::parse_script(text).expect("the script is good")
+        };
+        timed(parse).0
+    };
+    let what = format!("the same, the Rust from bytes too, {name}");
+    lent(what, text, times, rust)
+}
+
+/// Ours to lent words, beside the Rust in one way or another.
+fn lent(what: String, text: &str, times: usize, rust: impl FnMut() -> Duration) -> Row {
     let expected = told(text);
     let mut lent = vec![0; BYTES / 9 * EVENT_WORDS];
-    let rust = || timed(|| original::parse_script(text).expect("the script is good")).0;
     let ours = || {
         let (time, count) = timed(|| bellmantle::parse_script_into(text.as_bytes(), &mut lent));
         assert_eq!(count, Ok(expected.len()));
         time
     };
-    both(
-        format!("the same, ours to lent words, {name}"),
-        times,
-        rust,
-        ours,
-    )
+    both(what, times, rust, ours)
 }
 
 fn told(text: &str) -> Vec<String> {

@@ -1,0 +1,3 @@
+-- The walk finds the stray line.
+pub mod Walking
+pub mod Sure

@@ -1,0 +1,3 @@
+-- The definitions that the crate's contracts cite.
+pub mod Utf8
+pub mod Sure
