@@ -30,11 +30,22 @@ fn point(size: usize, row: &Row) -> Point {
     }
 }
 
+/// How often a point is measured: other work on the machine can only lengthen a time, so that the least is taken.
+const TURNS: usize = 5;
+
 fn points(sizes: impl IntoIterator<Item = usize>, row: impl Fn(usize) -> Row) -> Vec<Point> {
-    sizes
-        .into_iter()
-        .map(|size| point(size, &row(size)))
-        .collect()
+    let least = |size: usize| {
+        let turns = (0..TURNS).map(|_| point(size, &row(size)));
+        turns.fold(None, |least: Option<Point>, turn| match least {
+            None => Some(turn),
+            Some(least) => Some(Point {
+                size,
+                rust: least.rust.min(turn.rust),
+                ours: least.ours.min(turn.ours),
+            }),
+        })
+    };
+    sizes.into_iter().filter_map(least).collect()
 }
 
 /// Measures and writes every plot into a folder; tells their files.
