@@ -6,6 +6,7 @@ use nights::extended::{self, Envelope, Network, Origin};
 use nights::state_machine::Op;
 use rand::SeedableRng;
 use rand_chacha::ChaCha8Rng;
+use std::time::Duration;
 use vsr_rs::Message;
 
 const TIMES: usize = 20_000;
@@ -391,26 +392,33 @@ pub fn rewind_sends(k: usize) -> Row {
             .send_journaled(letter(due, handle), &[], &[], &mut journal)
             .expect("there is room");
     }
+    let rust = || {
+        let (mut network, back) = (rust.copy(), rust.copy());
+        for &(due, handle) in &sent {
+            network.send(due, Origin::Replica(1), 2, message(handle), &mut rng);
+        }
+        timed(|| network = back).0
+    };
+    let ours = rewound(&ours, after, journal, k as u64);
+    both(format!("rewind of {k} sends"), TIMES, rust, ours)
+}
+
+/// A rewind over k calls from a network and its journal after them, back to the network before; the time of the call.
+fn rewound(
+    before: &Words,
+    after: Words,
+    mut journal: Vec<u64>,
+    k: u64,
+) -> impl FnMut() -> Duration + '_ {
     let header = [journal[0], journal[1]];
     let mut work = after.clone();
-    both(
-        format!("rewind of {k} sends"),
-        TIMES,
-        || {
-            let (mut network, back) = (rust.copy(), rust.copy());
-            for &(due, handle) in &sent {
-                network.send(due, Origin::Replica(1), 2, message(handle), &mut rng);
-            }
-            timed(|| network = back).0
-        },
-        || {
-            put_back(&mut work, &after);
-            journal[..2].copy_from_slice(&header);
-            let (time, back) = timed(|| work.rewind(k as u64, &mut journal));
-            assert!(back.is_ok() && work.records() == ours.records() && work.head() == ours.head());
-            time
-        },
-    )
+    move || {
+        put_back(&mut work, &after);
+        journal[..2].copy_from_slice(&header);
+        let (time, back) = timed(|| work.rewind(k, &mut journal));
+        assert!(back.is_ok() && work.records() == before.records() && work.head() == before.head());
+        time
+    }
 }
 
 /// Ten sends and a take undone; the Rust puts its copy back.
@@ -428,22 +436,12 @@ fn rewind(pending: usize) -> Row {
     after
         .take_due_journaled(1, &mut out, &mut journal)
         .expect("there is room");
-    let header = [journal[0], journal[1]];
-    let mut work = after.clone();
-    both(
-        format!("rewind of ten sends and a take, {pending} pending; the Rust puts its copy back"),
-        TIMES,
-        || {
-            let (mut network, back) = (rust.copy(), rust.copy());
-            rust_tick(&mut network, &mut rng, messages());
-            timed(|| network = back).0
-        },
-        || {
-            put_back(&mut work, &after);
-            journal[..2].copy_from_slice(&header);
-            let (time, back) = timed(|| work.rewind(11, &mut journal));
-            assert!(back.is_ok() && work.records() == ours.records() && work.head() == ours.head());
-            time
-        },
-    )
+    let rust = || {
+        let (mut network, back) = (rust.copy(), rust.copy());
+        rust_tick(&mut network, &mut rng, messages());
+        timed(|| network = back).0
+    };
+    let what =
+        format!("rewind of ten sends and a take, {pending} pending; the Rust puts its copy back");
+    both(what, TIMES, rust, rewound(&ours, after, journal, 11))
 }
