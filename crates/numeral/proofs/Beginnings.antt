@@ -1,6 +1,6 @@
 -- With which bytes a number begins: exactly those that some bytes more, or none, make a number. Digits behind others never make a value
 -- smaller, so that a beginning of a beginning is one. And what one byte more does to a beginning. Assumes nothing.
-use mathlib.Core.Bool.{Bool, true, false, cond, _&&_}
+use mathlib.Core.Bool.{Bool, true, false, cond, _&&_, false≢true}
 use mathlib.Core.List.{List, [], _∷_, _++_, append-nil, append-assoc}
 use mathlib.Core.Logic.{inl, inr}
 use mathlib.Core.Path.{_≡_, refl, sym, ap, subst, _∙_}
@@ -12,6 +12,7 @@ use lib.Dec.{T, ltb, eqb}
 use lib.ListN.{length, take, drop, length-append}
 use lib.Pow.{pow-add}
 use lib.Seq.{take-add}
+use Rattle.basis.proofs.Laws.{both}
 use Rattle.numeral.specs.Digits.{isDigit, allDigits, valueOf}
 use Rattle.numeral.specs.Reading.{unsigned, beginsNumber, whyAt, withDigit, Digits, Says}
 use Rattle.numeral.specs.declared.Why.{Why}
@@ -23,11 +24,7 @@ is-true true t = refl
 is-true false t = absurd t
 
 pub never : {A : Type 0} → false ≡ true → A
-never e = let z : _≡_ {A = ℕ} 0 1 = cc in absurd (omega arith)
-
-pub both : (p q : Bool) → (p && q) ≡ true → (p ≡ true) × (q ≡ true)
-both true q e = (refl, e)
-both false q e = never e
+never e = absurd (false≢true e)
 
 -- ---- digits behind digits
 digits-append : (p q : List ℕ) → allDigits (p ++ q) ≡ (allDigits p && allDigits q)

@@ -13,13 +13,14 @@ use borrow.Author.Tests.{lt-ltb, le-ltb, ltb-true, ltb-false, eq-eqb, eqb-true}
 use lib.Dec.{T, ltb, eqb}
 use lib.ListN.{length, take, getD}
 use lib.Seq.{take-suc, take-all, length-take-le}
+use Rattle.basis.proofs.Laws.{both}
 use Rattle.numeral.specs.Digits.{isDigit, allDigits, valueOf}
 use Rattle.numeral.specs.Reading.{unsigned, beginsNumber, stopFrom, stop, numberOf, isNumber, good, bad, wordJudged, forgetting, Digits, Says, BadAt, missing, stray, large}
 use Rattle.numeral.specs.declared.Why.{Why}
 use Rattle.numeral.specs.declared.Why.the-variants.{NoDigit, StrayByte, TooLarge}
 use Rattle.numeral.specs.declared.Number.{Number}
 use Rattle.numeral.specs.declared.Number.the-variants.{Value, Bad}
-use Rattle.numeral.proofs.Beginnings.{is-true, never, both, no-sign, begins-take, begins-more, value-more}
+use Rattle.numeral.proofs.Beginnings.{is-true, never, no-sign, begins-take, begins-more, value-more}
 use Rattle.numeral.proofs.Stopping.{StopsAt, stops-at, says-bad, says-value, says-missing}
 
 -- ---- good or bad

@@ -1,6 +1,6 @@
 -- A text that is UTF-8 and has plain words has no stray line: a line feed is no continuation byte, so that no character runs over it. Assumes
 -- nothing.
-use mathlib.Core.Bool.{Bool, true, false, cond, not, _||_}
+use mathlib.Core.Bool.{Bool, true, false, cond, not, false≢true}
 use mathlib.Core.List.{List, [], _∷_}
 use mathlib.Core.Path.{_≡_, refl, sym, ap, _∙_}
 use Prim.Native.Nat.{ℕ, zero, suc, _≤_, _<_}
@@ -16,9 +16,6 @@ use Rattle.script_stray.specs.Walk.{spotOf, spotAfter, spotEnds, strayFr
 use Rattle.script_stray.specs.declared.Spot.{Spot}
 use Rattle.script_stray.specs.declared.Spot.the-variants.{Words, Between, Inside, Astray}
 use Rattle.script_stray.proofs.Walking.{spot-of, walk-finds}
-
-no-way : {A : Type 0} → false ≡ true → A
-no-way e = let z : _≡_ {A = ℕ} 0 1 = cc in absurd (omega arith)
 
 -- ---- what is awaited inside a character is over 127
 
@@ -72,8 +69,8 @@ fine-end = record { comment = at-end; words = λ e f n. refl }
   where
     at-end : (s : Awaiting) → High s → utf8From s [] ≡ true → wordsPlain true [] ≡ true → (n : ℕ) → strayFrom n (spotOf s) [] ≡ 0
     at-end between h e f n = refl
-    at-end (inside k lo hi) h e f n = no-way e
-    at-end illFormed h e f n = no-way e
+    at-end (inside k lo hi) h e f n = absurd (false≢true e)
+    at-end illFormed h e f n = absurd (false≢true e)
 
 module _ (b : ℕ) (bs : List ℕ) (next : Fine bs) where
   -- a line feed in a comment: a character ended before it
@@ -82,8 +79,8 @@ module _ (b : ℕ) (bs : List ℕ) (next : Fine bs) where
   unfolding afterByte spotEnds High
   feed between h d e f n = next .words (sym (ap (λ t. utf8From t bs) (at-1 b (omega (arith, d)))) ∙ e) f (suc n)
   feed (inside k lo hi) h d e f n =
-      no-way (sym (ill-stays bs) ∙ sym (ap (λ t. utf8From (cond t (afterThis k) illFormed) bs) (below-range lo hi b (omega (arith, d, h)))) ∙ e)
-  feed illFormed h d e f n = no-way (sym (ill-stays bs) ∙ e)
+      absurd (false≢true (sym (ill-stays bs) ∙ sym (ap (λ t. utf8From (cond t (afterThis k) illFormed) bs) (below-range lo hi b (omega (arith, d, h)))) ∙ e))
+  feed illFormed h d e f n = absurd (false≢true (sym (ill-stays bs) ∙ e))
 
   in-comment : (s : Awaiting) → High s → utf8From s (b ∷ bs) ≡ true → wordsPlain true (b ∷ bs) ≡ true → (n : ℕ) → strayFrom n (spotOf s) (b ∷ bs) ≡ 0
   unfolding utf8From strayFrom wordsPlain
@@ -116,7 +113,7 @@ module _ (b : ℕ) (bs : List ℕ) (next : Fine bs) where
 
       by-over : (o : Bool) → ltb 127 b ≡ o → cond o false (wordsPlain (eqb 35 b) bs) ≡ true
           → cond (eqb b 10) (strayFrom (suc n) Words bs) (strayFrom n (cond o Astray (cond (eqb 35 b) Between Words)) bs) ≡ 0
-      by-over true d g = no-way g
+      by-over true d g = absurd (false≢true g)
       by-over false d g =
           let l : b ≤ 127 = ltb-false 127 b d in
           by-feed l g (sym (ap (λ t. utf8From t bs) (at-1 b l)) ∙ e) (eqb b 10) refl
@@ -140,9 +137,3 @@ comment-passed (b ∷ bs) = by-feed (eqb 10 b) refl (comment-passed bs)
     by-feed true d h = sym (ap (λ o. cond o false (wordsPlain (eqb 35 b) bs)) (le-ltb 127 b (omega (arith, eqb-true 10 b d)))
         ∙ ap (λ q. wordsPlain q bs) (ne-eqb 35 b (λ y. omega (arith, y, eqb-true 10 b d))))
     by-feed false d h = h
-
--- ---- two tests that both fail
-
-pub neither : (p q : Bool) → (p || q) ≡ false → (p ≡ false) × (q ≡ false)
-neither true q e = no-way (sym e)
-neither false q e = (refl, e)

@@ -1,6 +1,6 @@
 -- The walk finds the line that the definition tells: a line is stray from a spot on exactly if the walk over what is left of it ends where no
 -- line may end. Assumes nothing.
-use mathlib.Core.Bool.{Bool, true, false, cond, not, _||_}
+use mathlib.Core.Bool.{Bool, true, false, cond, not, _||_, false≢true}
 use mathlib.Core.List.{List, [], _∷_}
 use mathlib.Core.Path.{_≡_, refl, sym, ap, _∙_}
 use Prim.Native.Nat.{ℕ, suc, _≤_, _<_}
@@ -99,12 +99,10 @@ walk-finds text = sym (walks 1 Words text ∙ from-words 1 (linesOf text))
 
 -- ---- a text without a byte over 127 has none
 
-first-part : (p q : Bool) → (p || q) ≡ false → (p ≡ false) × (q ≡ false)
-first-part true q e = (e, absurd (true-false e))
-  where
-    true-false : true ≡ false → ⊥
-    true-false z = let y : _≡_ {A = ℕ} 1 0 = cc in omega arith
-first-part false q e = (refl, e)
+-- two tests that both fail
+pub neither : (p q : Bool) → (p || q) ≡ false → (p ≡ false) × (q ≡ false)
+neither true q e = absurd (false≢true (sym e))
+neither false q e = (refl, e)
 
 after-plain : (b : ℕ) → ltb 127 b ≡ false → spotAfter Between b ≡ Between
 unfolding spotAfter
@@ -114,7 +112,7 @@ plain : (n : ℕ) (bs : List ℕ) → hasOver bs ≡ false → (strayFrom n Word
 unfolding strayFrom spotEnds spotAfter hasOver
 plain n [] h = (refl, refl)
 plain n (b ∷ bs) h =
-    let a = first-part (ltb 127 b) (hasOver bs) h in
+    let a = neither (ltb 127 b) (hasOver bs) h in
     let m = plain (suc n) bs (a .1) in
     let k = plain n bs (a .1) in
     (in-words (eqb b 10) (eqb 35 b) (a .0) (m .0) k, in-comment (eqb b 10) (a .0) (m .0) (k .1))

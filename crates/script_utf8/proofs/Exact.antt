@@ -1,11 +1,12 @@
 -- The test by the table accepts a list of bytes just when it is the encodings of some scalar values. Assumes nothing.
-use mathlib.Core.Bool.{Bool, true, false, cond, _&&_, _||_}
+use mathlib.Core.Bool.{Bool, true, false, cond, _&&_, _||_, false≢true}
 use mathlib.Core.List.{List, [], _∷_, _++_}
 use mathlib.Core.Path.{_≡_, refl, sym, ap, _∙_, subst}
 use Prim.Native.Nat.{ℕ, zero, suc, _+_, _-_, _*_, _/_, _%_, _≤_, _<_}
 use native.Mathlib.Omega.{arith}
 use borrow.Author.Tests.{le-leb, lt-leb, leb-true, leb-false}
 use lib.Dec.{leb}
+use Rattle.basis.proofs.Laws.{both}
 use Rattle.script_utf8.specs.Utf8.{inRange, scalar, continuation, encode, encodeAll, allScalar, Utf8, Awaiting, between, inside, illFormed, Sequence, sequence, sequences, afterFirst, afterThis, afterByte, mayEnd, utf8From, isUtf8, Utf8Exact, Utf8Decodes}
 
 -- ---- tests
@@ -21,14 +22,6 @@ and-false false = refl
 pub above-range : (lo hi b : ℕ) → hi < b → inRange lo hi b ≡ false
 unfolding inRange
 above-range lo hi b h = rw (lt-leb b hi h) (and-false (leb lo b))
-
-both : (p q : Bool) → (p && q) ≡ true → (p ≡ true) × (q ≡ true)
-both true true e = (refl, refl)
-both true false e = (refl, e)
-both false q e = (e, absurd (no-way e))
-  where
-    no-way : false ≡ true → ⊥
-    no-way z = let y : _≡_ {A = ℕ} 0 1 = cc in omega arith
 
 range-bounds : (lo hi b : ℕ) → inRange lo hi b ≡ true → (lo ≤ b) × (b ≤ hi)
 unfolding inRange
@@ -318,9 +311,6 @@ Rest between bytes = Utf8 bytes
 Rest (inside k lo hi) bytes = Bytes k lo hi bytes
 Rest illFormed bytes = ⊥
 
-false-true : false ≡ true → ⊥
-false-true z = let y : _≡_ {A = ℕ} 0 1 = cc in omega arith
-
 -- the rows of a table lead only to well-formed bytes
 Leads : ℕ → List ℕ → List Sequence → Type 0
 Leads b bs rs = Rest (afterFirst b rs) bs → Utf8 (b ∷ bs)
@@ -410,8 +400,8 @@ inside-row true (suc k) lo hi b bs e r =
 known : (bytes : List ℕ) (s : Awaiting) → utf8From s bytes ≡ true → Rest s bytes
 unfolding utf8From mayEnd afterByte Rest allScalar encodeAll
 known [] between a = record { scalars = []; each = refl; same = refl }
-known [] (inside k lo hi) a = absurd (false-true a)
-known [] illFormed a = false-true a
+known [] (inside k lo hi) a = absurd (false≢true a)
+known [] illFormed a = false≢true a
 known (b ∷ bs) between a = at-table b bs (known bs (afterFirst b sequences) a)
 known (b ∷ bs) (inside k lo hi) a = inside-row (inRange lo hi b) k lo hi b bs refl (known bs (cond (inRange lo hi b) (afterThis k) illFormed) a)
 known (b ∷ bs) illFormed a = known bs illFormed a

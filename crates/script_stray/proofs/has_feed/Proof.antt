@@ -12,7 +12,7 @@ use lib.ListN.{length, drop, getD}
 use lib.Seq.{drop-cons}
 use Rattle.script_words.specs.Words.{until}
 use Rattle.script_stray.specs.Walk.{blockBytes}
-use Rattle.script_stray.proofs.Sure.{neither}
+use Rattle.script_stray.proofs.Walking.{neither}
 use Rattle.script_stray.proofs.has_feed.Statement.{statement}
 use Rattle.script_stray.proofs.has_feed.Tie as tie
 

@@ -1,11 +1,12 @@
 -- `script::fault::is` meets its contract: two lists of bytes are the same exactly if they are equal. Assumes nothing.
 use borrow.Author.Tests.{eqb-true, eq-eqb}
 use native.Mathlib.Omega.{arith}
-use mathlib.Core.Bool.{Bool, true, false, _&&_}
+use mathlib.Core.Bool.{Bool, true, false, _&&_, false≢true}
 use mathlib.Core.List.{List, [], _∷_}
 use mathlib.Core.Path.{_≡_, refl, sym, ap₂, _∙_}
 use Prim.Native.Nat.{ℕ}
 use lib.Dec.{eqb}
+use Rattle.basis.proofs.Laws.{both}
 use Rattle.script.specs.Faults.{same}
 use Rattle.script.proofs.fault.is.Statement.{statement}
 use Rattle.script.proofs.fault.is.Tie as tie
@@ -15,18 +16,11 @@ unfolding same
 same-self [] = refl
 same-self (b ∷ bs) = rw (eq-eqb b b refl, same-self bs)
 
-never : false ≡ true → ⊥
-never e = let z : _≡_ {A = ℕ} 0 1 = cc in omega arith
-
-both : (p q : Bool) → (p && q) ≡ true → (p ≡ true) × (q ≡ true)
-both true q e = (refl, e)
-both false q e = absurd (never e)
-
 same-equal : (l m : List ℕ) → same l m ≡ true → l ≡ m
 unfolding same
 same-equal [] [] e = refl
-same-equal [] (y ∷ ys) e = absurd (never e)
-same-equal (x ∷ xs) [] e = absurd (never e)
+same-equal [] (y ∷ ys) e = absurd (false≢true e)
+same-equal (x ∷ xs) [] e = absurd (false≢true e)
 same-equal (x ∷ xs) (y ∷ ys) e =
     let b = both (eqb x y) (same xs ys) e in
     ap₂ (λ (a : ℕ) (l : List ℕ). a ∷ l) (eqb-true x y (b .0)) (same-equal xs ys (b .1))
