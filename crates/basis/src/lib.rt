@@ -1,5 +1,7 @@
 // What several crates share: how many plants there are, how many of them are a quorum, and a bool as a word. Beside it definitions and
 // laws that several crates cite, in specs/ and proofs/.
+#![tactic(auto)]
+
 ghost use Rattle.std.specs.Prelude.{◌≡◌, ◌≤◌};
 ghost use Rattle.basis.specs.Basis.{plant_count, quorum, bit};
 

@@ -1,6 +1,8 @@
 // The boundary for the host: our calls over numbers and lent words, for a program in another language to link. A state and an answer are
 // lent words; a call returns 0, or the number of its refusal, and on a refusal no lent word changes. include/bellmantle.h declares each
 // function, each word of each layout and each number.
+#![tactic(auto)]
+
 ghost use Rattle.std.specs.Prelude.{◌≡◌, [], ◌∷◌, length};
 ghost use Rattle.script.specs.Scripts.{script_answer, script_words};
 ghost use Rattle.nights.specs.Record.{record_words};

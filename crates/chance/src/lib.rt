@@ -1,5 +1,7 @@
 // Probabilities: which ones are good, by comparison; their 64 bits and back; and a yes or no draw on
 // one with words that the host lends. It stands where the Rust has gen_bool of rand 0.8.
+#![tactic(auto)]
+
 ghost use Rattle.std.specs.Prelude.{◌≡◌, false, T};
 ghost use Rattle.std.specs.Float.{binary64};
 ghost use Rattle.std.specs.Float.Ieee.{to_bits, of_bits};
@@ -7,7 +9,7 @@ ghost use Rattle.chance.specs.Probability.{good_word, good_probability, is_one, 
 ghost use Rattle.chance.specs.Draw.{gen_bool, gen_bool_in_send};
 
 // What a draw answers, with the place of the next word: a draw that used one stands one further.
-#[derive(Drop)]
+#[derive(Clone, Copy)]
 pub enum Draw {
     Yes(usize),
     No(usize),

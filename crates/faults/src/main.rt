@@ -1,5 +1,7 @@
 // The program `faults`: a fault script on standard input, what it says on standard output. What is
 // written is script_report's to say; here it is only read and written.
+#![tactic(auto)]
+
 ghost use Rattle.std.specs.Prelude.{◌≡◌, ◌+◌, length};
 ghost use Rattle.script.specs.Scripts.{longest};
 

@@ -1,10 +1,12 @@
 // The whole of an input, in as many reads as it comes in: a pipe, a terminal and a file hand out what they have, and only the end of the
 // input ends it. What is read no contract can say, since none says what a read puts there; how much of the lent bytes was filled is said.
+#![tactic(auto)]
+
 ghost use Rattle.std.specs.Prelude.{length};
 ghost use Rattle.input.specs.Input.{Moved, Filled};
 
 // What one read did.
-#[derive(Drop)]
+#[derive(Clone, Copy)]
 enum Got {
     Bytes(usize),
     End,
@@ -12,7 +14,7 @@ enum Got {
 }
 
 // What was read in all: so many bytes, or a read failed.
-#[derive(Drop)]
+#[derive(Clone, Copy)]
 pub enum Input {
     Bytes(usize),
     Unreadable,

@@ -1,5 +1,7 @@
 // The journal's words: the sorts and lengths of records, whether the header is good, whether a record has room, a record put behind the
 // others, and the record of a change of options.
+#![tactic(auto)]
+
 ghost use Rattle.std.specs.Prelude.{◌≡◌, true, ◌+◌, ◌≤◌, length};
 ghost use Rattle.basis.specs.Basis.{laid};
 ghost use Rattle.nights.specs.Net.{good_options};

@@ -1,4 +1,6 @@
 // A journaled change of the options: the plain change, with a record of the old options behind the journal's others. Any words may be lent.
+#![tactic(auto)]
+
 ghost use Rattle.std.specs.Prelude.{◌≡◌};
 ghost use Rattle.network_options.specs.Answers.{settled_of};
 ghost use Rattle.network_options.specs.Options.{plain_options};

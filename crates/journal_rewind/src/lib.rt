@@ -1,4 +1,6 @@
 // A rewind: the network from before the last k calls that the journal holds, from their records alone. Any words may be lent.
+#![tactic(auto)]
+
 ghost use Rattle.std.specs.Prelude.{◌≡◌, length};
 ghost use Rattle.nights.specs.Journal.{rewind};
 ghost use Rattle.nights.specs.Tests.{done, refused};
@@ -13,7 +15,7 @@ use network_options::{Refusal, Settled};
 use network_queue::WORDS;
 
 // The head that a rewind leaves, with the rewind's answer.
-#[derive(Drop)]
+#[derive(Clone, Copy)]
 pub struct HeadRewound {
     pub head: Head,
     pub answer: Settled,

@@ -1,4 +1,6 @@
 // A journaled send: the plain send, with a record of the numbers before it behind the journal's others. Any words may be lent.
+#![tactic(auto)]
+
 ghost use Rattle.std.specs.Prelude.{◌≡◌};
 ghost use Rattle.nights.specs.Draws.{decided};
 ghost use Rattle.network_send.specs.Sends.{sent_of, sending};

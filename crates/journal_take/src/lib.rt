@@ -1,4 +1,6 @@
 // A journaled take: the plain take, with a record of what was taken behind the journal's others. Any words may be lent.
+#![tactic(auto)]
+
 ghost use Rattle.std.specs.Prelude.{◌≡◌, length};
 ghost use Rattle.nights.specs.Record.{record_words};
 ghost use Rattle.nights.specs.Net.{keep, is_due};

@@ -2,6 +2,8 @@
 // before its call. The words of a journal may be forged: a record that does not fit, or that would leave an ill-formed network, is
 // told as such, and no sum of the walk wraps. The network is well formed before each record, so that only what its sort can break is tested
 // after it (journal_tests).
+#![tactic(auto)]
+
 ghost use Rattle.std.specs.Prelude.{◌≡◌, true, ◌≤◌, length};
 ghost use Rattle.nights.specs.Journal.{undo_one, checked, undo_all};
 ghost use Rattle.network_queue.specs.Packed.{array_size};

@@ -1,4 +1,6 @@
 // The undoing of a change of options, from its record in the journal.
+#![tactic(auto)]
+
 ghost use Rattle.std.specs.Prelude.{◌≡◌, true, List, ℕ, ◌-◌, ◌≤◌, length};
 ghost use Rattle.nights.specs.Journal.{undo_as, checked};
 ghost use Rattle.network_form.specs.Forms.{plain_in, formed_in};

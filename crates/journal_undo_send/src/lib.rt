@@ -1,4 +1,6 @@
 // The undoing of a send, in place, from its record in the journal.
+#![tactic(auto)]
+
 ghost use Rattle.std.specs.Prelude.{◌≡◌, true, ◌-◌, ◌≤◌, length};
 ghost use Rattle.nights.specs.Journal.{undo_as, checked};
 ghost use Rattle.network_queue.specs.Packed.{array_size};

@@ -1,4 +1,6 @@
 // The undoing of a take, in place, from its record in the journal. Nothing has tested the records of a journal before.
+#![tactic(auto)]
+
 ghost use Rattle.std.specs.Prelude.{◌≡◌, true, ◌+◌, ◌-◌, ◌*◌, ◌≤◌, length};
 ghost use Rattle.nights.specs.Record.{record_at, recs, record_size};
 ghost use Rattle.nights.specs.Net.{capacity};

@@ -1,6 +1,8 @@
 // The journal over lent words: a network's head and records as in `network_words`, and the journal's own words. A call answers 0, or
 // the number of its refusal; then no lent word is changed, those lent for the answer included. The network is read into a value and
 // written back, since a journaled call can still be refused once its network is known; a rewind works in place and keeps what came.
+#![tactic(auto)]
+
 ghost use Rattle.std.specs.Prelude.{◌≡◌, true, [], ◌∷◌, T, length};
 ghost use Rattle.chance.specs.Probability.{good_word};
 ghost use Rattle.nights.specs.Record.{record_words};

@@ -1,6 +1,8 @@
 // Simulated network with fault injection. The host hands it what is to be sent, with the draws and delays that decide the message's
 // fate, and every tick takes what is due. The network is a value: each call hands back the network that follows, and a call that is
 // refused hands back the one that it was given.
+#![tactic(auto)]
+
 ghost use Rattle.std.specs.Prelude.{◌≡◌, true, [], length};
 ghost use Rattle.nights.specs.Net.{capacity, sent_limit, good_options, fresh, send, collect, choose};
 ghost use Rattle.nights.specs.Tests.{verdict, option_tests};
@@ -19,7 +21,7 @@ use network_queue::{RECORD_SIZE, WORDS};
 use network_send::{Letter, SendAnswer};
 use network_take::Counted;
 
-#[derive(Drop)]
+#[derive(Clone, Copy)]
 pub struct Network {
     pub head: Head,
     // Messages in flight, in the order of (due tick, number): eight words each, and zeros behind them.
@@ -27,26 +29,26 @@ pub struct Network {
 }
 
 // The network that follows a call, with the call's answer.
-#[derive(Drop)]
+#[derive(Clone, Copy)]
 pub struct Next {
     pub network: Network,
     pub answer: Settled,
 }
 
-#[derive(Drop)]
+#[derive(Clone, Copy)]
 pub struct Taken {
     pub network: Network,
     pub answer: Counted,
 }
 
-#[derive(Drop)]
+#[derive(Clone, Copy)]
 pub struct Sent {
     pub network: Network,
     pub answer: SendAnswer,
 }
 
 // The head that follows a change of options, with the answer.
-#[derive(Drop)]
+#[derive(Clone, Copy)]
 struct HeadNext {
     head: Head,
     answer: Settled,

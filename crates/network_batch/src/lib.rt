@@ -2,6 +2,8 @@
 // calls is refused the whole is, with that call's number and place, and no lent word is changed; else it is the calls one after the
 // other. The records are worked on in place: where a call is refused, the copies that the sends before it queued are dropped again,
 // which are those of the newest numbers.
+#![tactic(auto)]
+
 ghost use Rattle.std.specs.Prelude.{◌≡◌, true, ◌+◌, ◌*◌, ◌≤◌, length};
 ghost use Rattle.nights.specs.Record.{recs};
 ghost use Rattle.nights.specs.Net.{keep};
@@ -55,7 +57,7 @@ fn letter_at(sends: &[u64], place: usize) -> Letter
 }
 
 // What the sends leave: the head and the words used, or the number and the place of the first that is refused.
-#[derive(Drop)]
+#[derive(Clone, Copy)]
 struct Run {
     refusal: u64,
     place: usize,

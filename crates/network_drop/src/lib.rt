@@ -1,4 +1,6 @@
 // The newest records of a network dropped: what a rewind of a send needs, and a tick that is refused after some of its sends.
+#![tactic(auto)]
+
 ghost use Rattle.std.specs.Prelude.{◌≡◌, ◌++◌, ◌-◌, ◌*◌, ◌≤◌, length, drop, replicate};
 ghost use Rattle.nights.specs.Record.{record_words, recs, record_size};
 ghost use Rattle.nights.specs.Net.{keep, capacity};

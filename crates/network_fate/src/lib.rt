@@ -1,5 +1,7 @@
 // The fate of a message alone: what its draws and extras decide under options handed in as words, with no network at hand. A call answers
 // 0, or the number of its refusal; then no lent word is changed.
+#![tactic(auto)]
+
 ghost use Rattle.std.specs.Prelude.{◌≡◌};
 ghost use Rattle.network_fates.specs.Answers.{decision_of};
 ghost use Rattle.network_layout.specs.Layout.{options_from};

@@ -1,4 +1,6 @@
 // The fate of a message under a network's options: what its lent draws and extras decide, and what that adds to the counters.
+#![tactic(auto)]
+
 ghost use Rattle.std.specs.Prelude.{◌≡◌, true, ◌+◌, ◌≤◌, T, length};
 ghost use Rattle.nights.specs.Net.{good_options, dues, lost_by, replayed_by, delayed_by};
 ghost use Rattle.nights.specs.Draws.{extras_for, extra_at, alone, both, after_replay, decided, is_faulted};
@@ -17,7 +19,7 @@ const REQUEST: u64 = 0;
 const LAST_TICK: u64 = 0xffff_ffff_ffff_ffff;
 
 // What a message's draws and extras decide, with the words used.
-#[derive(Drop)]
+#[derive(Clone, Copy)]
 pub enum Decision {
     Refused(Refusal),
     Lost {
@@ -42,7 +44,7 @@ pub enum Decision {
 }
 
 // A tick, or one past the last.
-#[derive(Drop)]
+#[derive(Clone, Copy)]
 enum Tick {
     At(u64),
     Past,

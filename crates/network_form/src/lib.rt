@@ -1,5 +1,7 @@
 // A network without its records, and the test that every call makes first (23): its options good, its counters even, and its lent records
 // good, in order, none numbered twice, with zeros behind them.
+#![tactic(auto)]
+
 ghost use Rattle.std.specs.Prelude.{◌≡◌, length};
 ghost use Rattle.nights.specs.Net.{good_counts};
 ghost use Rattle.network_queue.specs.Packed.{array_size};
@@ -12,7 +14,7 @@ use network_queue::{CAPACITY, WORDS};
 pub const SENT_LIMIT: u64 = 0x4000_0000_0000_0000;
 
 // A network without its records: the part of it that goes by value where the records are lent.
-#[derive(Drop)]
+#[derive(Clone, Copy)]
 pub struct Head {
     pub options: NetworkOptions,
     // How many messages are in flight.

@@ -1,5 +1,7 @@
 // A network's head as the host lends it: 12 words, read and written. They are the bits of the loss and of the replay probability, minimum,
 // mean, whether client messages are faulted (0 or 1), pending, seq, sent, delivered, lost, replayed, delayed.
+#![tactic(auto)]
+
 ghost use Rattle.std.specs.Prelude.{◌≡◌, true, [], ℕ};
 ghost use Rattle.nights.specs.Net.{good_options};
 ghost use Rattle.nights.specs.Tests.{verdict, option_tests};
@@ -46,7 +48,7 @@ const MIN_OVER_MEAN: u64 = 22;
 pub const ILL_FORMED: u64 = 23;
 
 // A head that was read: words that are no good probability, or a flag that is neither 0 nor 1, are none.
-#[derive(Drop)]
+#[derive(Clone, Copy)]
 pub struct Loaded {
     pub fits: bool,
     pub head: Head,

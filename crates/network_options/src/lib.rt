@@ -1,4 +1,6 @@
 // The options of a network, and why a call is refused. The refusals are one family for the network and the journal.
+#![tactic(auto)]
+
 ghost use Rattle.std.specs.Prelude.{◌≡◌, []};
 ghost use Rattle.nights.specs.Net.{good_options};
 ghost use Rattle.nights.specs.Tests.{verdict, option_tests};
@@ -6,7 +8,7 @@ ghost use Rattle.network_options.specs.Options.{plain_options, struct_options, p
 ghost use Rattle.network_options.specs.Answers.{refusal_number, settled_of};
 
 // Network fault injection options.
-#[derive(Drop)]
+#[derive(Clone, Copy)]
 pub struct NetworkOptions {
     // Probability per message that it is lost.
     pub packet_loss_probability: f64,
@@ -22,7 +24,7 @@ pub struct NetworkOptions {
 }
 
 // Why a call is refused; `refusal_number` in specs/Answers gives each its number. The last three are for the calls of `journal`.
-#[derive(Drop)]
+#[derive(Clone, Copy)]
 pub enum Refusal {
     BadLoss,
     BadReplay,
@@ -41,7 +43,7 @@ pub enum Refusal {
 }
 
 // The answer of a call that has nothing more to tell.
-#[derive(Drop)]
+#[derive(Clone, Copy)]
 pub enum Settled {
     Done,
     Refused(Refusal),

@@ -1,5 +1,7 @@
 // The test of the records of a network, over words that the caller lends: each record good, in delivery order, none numbered twice, and
 // zeros behind them.
+#![tactic(auto)]
+
 ghost use Rattle.std.specs.Prelude.{◌≡◌, true, ◌-◌, ◌*◌, ◌≤◌, length, drop};
 ghost use Rattle.nights.specs.Record.{record_size, recs};
 ghost use Rattle.nights.specs.Net.{capacity};

@@ -1,5 +1,7 @@
 // A send on a network whose records are lent: the tests in their order, the fate that the lent draws and extras decide, and its copies put
 // among the records.
+#![tactic(auto)]
+
 ghost use Rattle.std.specs.Prelude.{◌≡◌, true, ◌+◌, ◌≤◌, ◌<◌, ◌^◌, length};
 ghost use Rattle.nights.specs.Record.{recs};
 ghost use Rattle.nights.specs.Net.{capacity, copy_at, copies, dues, send, every, good_record, rising};
@@ -17,7 +19,7 @@ use network_options::Refusal;
 use network_queue::WORDS;
 
 // What a send is told of its message.
-#[derive(Drop)]
+#[derive(Clone, Copy)]
 pub struct Letter {
     pub now: u64,
     pub sort: u64,
@@ -28,7 +30,7 @@ pub struct Letter {
 }
 
 // The answer of a send: what became of the message, and how many words of each lent list were used, from its front.
-#[derive(Drop)]
+#[derive(Clone, Copy)]
 pub enum SendAnswer {
     Accepted {
         lost: bool,
@@ -40,7 +42,7 @@ pub enum SendAnswer {
 }
 
 // The head that follows a send, with the send's answer.
-#[derive(Drop)]
+#[derive(Clone, Copy)]
 pub struct HeadSent {
     pub head: Head,
     pub answer: SendAnswer,

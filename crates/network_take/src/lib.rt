@@ -1,5 +1,7 @@
 // A take on a network whose records are lent: what is due goes to the front of the lent output, in delivery order. And what is in flight,
 // counted and listed.
+#![tactic(auto)]
+
 ghost use Rattle.std.specs.Prelude.{◌≡◌, true, length};
 ghost use Rattle.nights.specs.Net.{collect};
 ghost use Rattle.network_queue.specs.Packed.{array_size};
@@ -12,14 +14,14 @@ use network_options::Refusal;
 use network_queue::{RECORD_SIZE, WORDS};
 
 // The answer of a call that tells a number of records.
-#[derive(Drop)]
+#[derive(Clone, Copy)]
 pub enum Counted {
     Records(usize),
     Refused(Refusal),
 }
 
 // The head that follows a take, with the take's answer.
-#[derive(Drop)]
+#[derive(Clone, Copy)]
 pub struct HeadTaken {
     pub head: Head,
     pub answer: Counted,

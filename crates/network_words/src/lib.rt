@@ -4,6 +4,8 @@
 // A network is two rows of words. Its head is 12: the bits of the loss and of the replay probability, minimum, mean, whether client
 // messages are faulted (0 or 1), pending, seq, sent, delivered, lost, replayed, delayed. Its records are 1,024: eight words for each
 // pending message, in the order of delivery, and zeros behind them.
+#![tactic(auto)]
+
 ghost use Rattle.std.specs.Prelude.{◌≡◌};
 ghost use Rattle.network_send.specs.Sends.{plain_letter};
 ghost use Rattle.network_layout.specs.Layout.{loaded, options_from};

@@ -1,5 +1,7 @@
 // A number from the bytes of a word, where the Rust has u64's FromStr, and a number to plain decimal
 // bytes. No input is guessed at: `1,500` is bad at its comma, and is neither 1500 nor 1.
+#![tactic(auto)]
+
 ghost use Rattle.std.specs.Prelude.{◌≡◌, ◌+◌, ◌≤◌, ◌<◌, length};
 ghost use Rattle.numeral.specs.Digits.{last_digits};
 ghost use Rattle.numeral.specs.Reading.{why_number, sign_bytes, number_of, with_digit};
@@ -7,7 +9,7 @@ ghost use Rattle.basis.specs.Basis.{laid};
 ghost use Rattle.numeral.specs.Writing.{digit_count, written_of, out_of};
 
 // Why a word is no number.
-#[derive(Drop)]
+#[derive(Clone, Copy)]
 pub enum Why {
     // It ends before any digit.
     NoDigit,
@@ -19,21 +21,21 @@ pub enum Why {
 
 // What a word says: a number, or why it is none and at which place, counting its bytes from 0. A digit that
 // is missing is missing at the word's end.
-#[derive(Drop)]
+#[derive(Clone, Copy)]
 pub enum Number {
     Value(u64),
     Bad(Why, usize),
 }
 
 // A number with one more byte behind it, or why there is none.
-#[derive(Drop)]
+#[derive(Clone, Copy)]
 enum Step {
     Next(u64),
     Stopped(Why),
 }
 
 // How writing a number ended: with the place after its last digit, or with nothing written.
-#[derive(Drop)]
+#[derive(Clone, Copy)]
 pub enum Written {
     Upto(usize),
     NoRoom,

@@ -1,5 +1,7 @@
 // Which plants are up and which are cut off, what a fault does to them, and whether a message that
 // is due reaches its plant. Plants are the Rust's replicas.
+#![tactic(auto)]
+
 pub mod refusal;
 
 ghost use Rattle.std.specs.Prelude.{◌≡◌, true, false, ◌++◌, ◌-◌, ◌≤◌, ◌<◌, length, drop, replicate, set};
@@ -15,7 +17,7 @@ use script::fault::Fault;
 pub const LIMIT: u64 = 4611686018427387904;
 
 // The state of n plants, which are numbered from 0. There is room for 15.
-#[derive(Drop)]
+#[derive(Clone, Copy)]
 pub struct Plants {
     pub n: usize,
     // Whether each plant runs.
@@ -32,7 +34,7 @@ pub struct Plants {
 
 // What a call that changes the plants answers: done, done with a nonce that was drawn, or why it is
 // refused.
-#[derive(Drop)]
+#[derive(Clone, Copy)]
 pub enum Outcome {
     Done,
     Nonce(u64),
@@ -40,21 +42,21 @@ pub enum Outcome {
 }
 
 // The plants that follow a call, and its answer. After a refusal they are as they came.
-#[derive(Drop)]
+#[derive(Clone, Copy)]
 pub struct Next {
     pub plants: Plants,
     pub outcome: Outcome,
 }
 
 // Who sends a message.
-#[derive(Drop)]
+#[derive(Clone, Copy)]
 pub enum Origin {
     Replica(u64),
     Client(u64),
 }
 
 // What becomes of a message that is due.
-#[derive(Drop)]
+#[derive(Clone, Copy)]
 pub enum Verdict {
     Deliver,
     ReceiverDown,
@@ -62,7 +64,7 @@ pub enum Verdict {
 }
 
 // The verdict on a message, or why none is given.
-#[derive(Drop)]
+#[derive(Clone, Copy)]
 pub enum Judged {
     Is(Verdict),
     Refused(Refusal),

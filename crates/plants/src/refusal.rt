@@ -3,7 +3,7 @@
 ghost use Rattle.std.specs.Prelude.{◌≡◌};
 ghost use Rattle.plants.specs.Refusals.{plants_refusal};
 
-#[derive(Drop)]
+#[derive(Clone, Copy)]
 pub enum Refusal {
     // The number of plants is not 3 to 15.
     PlantCount,
@@ -26,7 +26,7 @@ pub enum Refusal {
 }
 
 // What a test finds.
-#[derive(Drop)]
+#[derive(Clone, Copy)]
 pub enum Test {
     Passed,
     Failed(Refusal),

@@ -1,6 +1,8 @@
 // The plants as the host lends them: the 49 words of a state, read and written, and what they answer by themselves; the fault and the
 // sender of a number. A state is n; a flag for each of 15 plants that it is up; a flag for each that it is partitioned; for each the tick
 // until which it is stable; crashes, restarts, reboots.
+#![tactic(auto)]
+
 ghost use Rattle.std.specs.Prelude.{◌≡◌, ◌++◌, ◌+◌, ◌≤◌, length, take, drop};
 ghost use Rattle.basis.specs.Basis.{most};
 ghost use Rattle.plants_layout.specs.Layout.{stable_at, crashes_at, state_size, flags_in, flag_words_fit, ticks_in, plants_in, state_words, bits, shaped, fault_in, origin_in};

@@ -1,5 +1,7 @@
 // The plants in the order in which a core takes them: dealt out by a shuffle, the healthy before the recovering, and all but a quorum
 // shuffled again. Beside it the tests of the flags and picks that decide it.
+#![tactic(auto)]
+
 ghost use Rattle.std.specs.Prelude.{◌≡◌, true, ◌++◌, ◌+◌, ◌-◌, ◌≤◌, ◌<◌, leb, length, take, drop, replicate};
 ghost use Rattle.plants_lineup.specs.Shuffle.{shuffled, picks_within};
 ghost use Rattle.basis.specs.Basis.{quorum};

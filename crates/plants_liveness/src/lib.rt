@@ -1,6 +1,8 @@
 // The core of plants that stays up at the end of a run, when every fault is over and the plants are
 // to agree: at least a quorum that is not recovering, and others as the picks have it. It stands
 // where the Rust has transition_to_liveness_mode.
+#![tactic(auto)]
+
 ghost use Rattle.std.specs.Prelude.{◌≡◌, true, not, ◌&&◌, ◌+◌, ◌-◌, ◌≤◌, ◌<◌, leb, length};
 ghost use Rattle.plants.specs.State.{limit};
 ghost use Rattle.basis.specs.Basis.{bit, quorum};
@@ -12,7 +14,7 @@ use plants::Plants;
 use plants::refusal::{Refusal, Test};
 
 // A core of so many plants, chosen by so many picks, or why there is none.
-#[derive(Drop)]
+#[derive(Clone, Copy)]
 pub enum Choice {
     Made { size: usize, used: usize },
     Refused(Refusal),
@@ -20,7 +22,7 @@ pub enum Choice {
 
 // The plants that follow a choice, the ids of the core in rising order with zeros past its size, and
 // the answer. After a refusal the plants are as they came, and the core is zeros.
-#[derive(Drop)]
+#[derive(Clone, Copy)]
 pub struct Chosen {
     pub plants: Plants,
     pub core: [u64; 15],

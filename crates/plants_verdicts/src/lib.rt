@@ -1,5 +1,7 @@
 // The verdicts on all records of a take in one call. The state is tested once, and a verdict reads the lent words in place; each record
 // is answered and told as the single call would. A refusal changes no lent word.
+#![tactic(auto)]
+
 ghost use Rattle.std.specs.Prelude.{◌≡◌, [], ◌∷◌, map, ◌+◌, ◌*◌, ◌≤◌, length, take, drop, get_or};
 ghost use Rattle.basis.specs.Basis.{most};
 ghost use Rattle.nights.specs.Record.{record_size, recs};

@@ -3,6 +3,8 @@
 //
 // A state is 49 words: n; a flag for each of 15 plants that it is up; a flag for each that it is partitioned; for each the tick until
 // which it is stable; crashes, restarts, reboots.
+#![tactic(auto)]
+
 ghost use Rattle.std.specs.Prelude.{◌≡◌, [], ◌∷◌, ◌+◌, length};
 ghost use Rattle.basis.specs.Basis.{most};
 ghost use Rattle.plants_layout.specs.Layout.{core_row};

@@ -1,4 +1,6 @@
 // Property 3: all plants agree on the committed prefix of the log.
+#![tactic(auto)]
+
 ghost use Rattle.std.specs.Prelude.{List, ◌≡◌, ℕ, ◌*◌, ◌≤◌, ◌<◌, length, get_or};
 ghost use Rattle.basis.specs.Basis.{fewest, most};
 ghost use Rattle.properties_snapshots.specs.Cluster.{cluster_in};

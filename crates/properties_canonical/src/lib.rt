@@ -1,5 +1,7 @@
 // Property 6 once for an index: where property 3 has passed, all that newly commit an index hold there the canonical entry,
 // so its copies are counted once. Yes is sure; after no property 6 is asked plant by plant.
+#![tactic(auto)]
+
 ghost use Rattle.std.specs.Prelude.{true, List, ◌≡◌, ℕ, ◌*◌, ◌≤◌, ◌<◌, max, length, get_or};
 ghost use Rattle.basis.specs.Basis.{most};
 ghost use Rattle.properties_snapshots.specs.Cluster.{cluster_in};

@@ -1,4 +1,6 @@
 // Property 1: a plant's commit number never goes back and never passes its op number, which is its log's length.
+#![tactic(auto)]
+
 ghost use Rattle.std.specs.Prelude.{List, ◌≡◌, ℕ, ◌*◌, ◌≤◌, length};
 ghost use Rattle.basis.specs.Basis.{most};
 ghost use Rattle.properties_snapshots.specs.Cluster.{cluster_in};

@@ -1,4 +1,6 @@
 // Property 7, at the end of a run: the core plants hold equal logs, fully committed, and equal values.
+#![tactic(auto)]
+
 ghost use Rattle.std.specs.Prelude.{List, ◌≡◌, ℕ, ◌*◌, ◌≤◌, ◌<◌, length, get_or};
 ghost use Rattle.basis.specs.Basis.{most};
 ghost use Rattle.properties_snapshots.specs.Cluster.{same_entry, entry_in, cluster_in};

@@ -1,4 +1,6 @@
 // Property 4: no op id appears twice in a plant's committed log.
+#![tactic(auto)]
+
 ghost use Rattle.std.specs.Prelude.{not, ◌≡◌, ◌+◌, ◌-◌, ◌≤◌, ◌<◌, min, eqb, length, get_or};
 ghost use Rattle.basis.specs.Basis.{most};
 ghost use Rattle.properties_snapshots.specs.Below.{all_below};

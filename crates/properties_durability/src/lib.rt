@@ -1,4 +1,6 @@
 // Property 6: a committed entry is held by enough plants to be in every quorum that those not recovering could form.
+#![tactic(auto)]
+
 ghost use Rattle.std.specs.Prelude.{List, ◌≡◌, ℕ, ◌+◌, ◌*◌, ◌≤◌, ◌<◌, length, get_or};
 ghost use Rattle.basis.specs.Basis.{most};
 ghost use Rattle.properties_snapshots.specs.Below.{count_below};

@@ -1,5 +1,7 @@
 // The cluster property that is asked at the end of a run, over lent words: a snapshot of the plants with their logs, their values and
 // the core.
+#![tactic(auto)]
+
 ghost use Rattle.std.specs.Prelude.{◌≡◌};
 ghost use Rattle.properties_end.specs.Calls.{end_answer};
 

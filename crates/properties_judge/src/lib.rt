@@ -1,4 +1,6 @@
 // The properties of a tick in their order, on words that fit: 1 of every plant, then 3, 4 and 6 of every entry newly committed.
+#![tactic(auto)]
+
 ghost use Rattle.std.specs.Prelude.{List, ◌≡◌, ℕ, ◌<◌, get_or};
 ghost use Rattle.properties_snapshots.specs.Cluster.{cluster_in};
 ghost use Rattle.properties_snapshots.specs.Layout.{commit_at};
@@ -10,7 +12,7 @@ ghost use Rattle.properties_judge.specs.Ticks.{named, asked, over_entries, judge
 use properties_verdicts::{Answer, Property};
 
 // The properties that ask about each entry newly committed: 3, 4 and 6.
-#[derive(Drop)]
+#[derive(Clone, Copy)]
 pub enum EntryProperty {
     PrefixAgreement,
     NoDuplicates,

@@ -1,5 +1,7 @@
 // Property 4 of all that is newly committed, by marks of ids: an id that meets no mark was surely not seen, and only
 // where one meets a mark are the ids before it looked through. Yes is sure; after no the properties are asked one by one.
+#![tactic(auto)]
+
 ghost use Rattle.std.specs.Prelude.{true, ◌≡◌, ℕ, ◌≤◌, ◌<◌, length, get_or};
 ghost use Rattle.basis.specs.Basis.{most};
 ghost use Rattle.properties_snapshots.specs.Cluster.{cluster_in};

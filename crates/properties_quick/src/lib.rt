@@ -1,5 +1,7 @@
 // The commonest tick: no commit has moved. One look at the plants' numbers shows that the words fit and that every
 // property passes. The answers here are sure where they are yes; no says nothing, and the properties themselves are asked.
+#![tactic(auto)]
+
 ghost use Rattle.std.specs.Prelude.{true, ◌≡◌, ℕ, ◌*◌, ◌≤◌, ◌<◌, length};
 ghost use Rattle.basis.specs.Basis.{most};
 ghost use Rattle.properties_snapshots.specs.Layout.{plant_words, tracker_words};

@@ -1,4 +1,6 @@
 // What the tracker remembers after a tick whose properties all passed.
+#![tactic(auto)]
+
 ghost use Rattle.std.specs.Prelude.{List, ◌∷◌, ◌≡◌, ℕ, ◌+◌, ◌-◌, ◌*◌, ◌≤◌, ◌<◌, length, get_or};
 ghost use Rattle.properties_snapshots.specs.Below.{numbered, max_below};
 ghost use Rattle.properties_snapshots.specs.Cluster.{words_of_entry, words_of_entries, entry_in, cluster_in};

@@ -1,5 +1,7 @@
 // The words of a snapshot and of the tracker: where they stand, and what must be right about them before a property is
 // looked at. The functions that ask something of their words are for the crates of the properties.
+#![tactic(auto)]
+
 ghost use Rattle.std.specs.Prelude.{◌≡◌, ◌+◌, ◌*◌, ◌≤◌, ◌<◌, length, get_or};
 ghost use Rattle.basis.specs.Basis.{most};
 ghost use Rattle.properties_snapshots.specs.Cluster.{same_entry, entry_in};

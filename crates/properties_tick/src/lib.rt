@@ -1,5 +1,7 @@
 // The cluster properties that are asked after every tick, over lent words: a snapshot of the plants with their logs, and a tracker
 // that remembers what earlier ticks have shown. A call judges first and writes after: a break or a refusal leaves the tracker as it came.
+#![tactic(auto)]
+
 ghost use Rattle.std.specs.Prelude.{◌≡◌};
 ghost use Rattle.properties_tick.specs.Calls.{tick_answer, tick_words};
 

@@ -1,5 +1,7 @@
 // An answer about the cluster properties in four words: the broken property's number or 0, the plant, the index and the test; or a
 // refusal's number, with the words as they came.
+#![tactic(auto)]
+
 ghost use Rattle.std.specs.Prelude.{◌≡◌, length};
 ghost use Rattle.properties_told.specs.Told.{answer_words, answer_number, answer_told};
 

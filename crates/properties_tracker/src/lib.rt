@@ -1,4 +1,6 @@
 // The tracker that remembers what earlier ticks have shown: made anew, and told that a plant came back without its memory.
+#![tactic(auto)]
+
 ghost use Rattle.std.specs.Prelude.{◌≡◌, length, replicate};
 ghost use Rattle.properties_tracker.specs.Calls.{fresh_answer, fresh_words, reboot_answer, reboot_words};
 

@@ -1,9 +1,11 @@
 // What a call about the properties answers: a pass, the first broken place, or why it was refused.
+#![tactic(auto)]
+
 ghost use Rattle.std.specs.Prelude.{◌≡◌};
 ghost use Rattle.properties_verdicts.specs.Verdicts.{property_number, properties_refusal};
 
 // The properties, by the Rust's names in short.
-#[derive(Drop)]
+#[derive(Clone, Copy)]
 pub enum Property {
     CommitNumber,
     PrefixAgreement,
@@ -14,7 +16,7 @@ pub enum Property {
 
 // Why a call is refused: n is not 3 to 15; the id is not below n; the snapshot's or the core's words are not as
 // they must be; the tracker's are not.
-#[derive(Drop)]
+#[derive(Clone, Copy)]
 pub enum Refusal {
     PlantCount,
     NoSuchPlant,
@@ -23,7 +25,7 @@ pub enum Refusal {
 }
 
 // What a call answers. The place of a break is the first one.
-#[derive(Drop)]
+#[derive(Clone, Copy)]
 pub enum Answer {
     Pass,
     Broken {

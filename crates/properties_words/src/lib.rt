@@ -1,5 +1,7 @@
 // The cluster properties over lent words, with their answer in four of them: the broken property's number or 0, the plant, the index and
 // the test. A call answers 0, or the number of its refusal; then no lent word is changed, those lent for the answer included.
+#![tactic(auto)]
+
 ghost use Rattle.std.specs.Prelude.{◌≡◌, length};
 ghost use Rattle.properties_tracker.specs.Calls.{fresh_answer, fresh_words, reboot_answer, reboot_words};
 ghost use Rattle.properties_tick.specs.Calls.{tick_answer, tick_words};

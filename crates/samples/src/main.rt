@@ -1,6 +1,8 @@
 // The program `samples`: a list of calls on standard input, with what is expected of each; a tally of what they came to on standard output.
 // The list has answers of the Rust, and of the rules where the Rust has none; some expectations are wrong on purpose, so that a replay
 // that sees nothing is seen. compare/README.md says how it is made.
+#![tactic(auto)]
+
 ghost use Rattle.std.specs.Prelude.{◌≡◌, ◌<◌, ◌≤◌, length};
 
 use input::Input;

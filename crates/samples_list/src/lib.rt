@@ -11,6 +11,8 @@
 //   3 which answer number..     a call: its answer, and every word of each row that it may write, are compared
 //
 // compare/README.md lists the rows and the calls by their numbers.
+#![tactic(auto)]
+
 ghost use Rattle.std.specs.Prelude.{◌+◌, ◌<◌, ◌≤◌, length};
 
 // The sorts of steps.
@@ -28,7 +30,7 @@ pub const NUMBERS: usize = 11;
 // ---- The numbers
 
 // A number of the list, and where the next one begins.
-#[derive(Drop)]
+#[derive(Clone, Copy)]
 pub struct Reading {
     pub value: u64,
     pub next: usize,
@@ -75,7 +77,7 @@ pub fn number(list: &[u8], at: usize) -> Reading
 // ---- The steps
 
 // A step: its sort, the numbers behind it, and where its words or the next step begin.
-#[derive(Drop)]
+#[derive(Clone, Copy)]
 pub struct Turn {
     pub sort: u64,
     pub numbers: [u64; NUMBERS],
@@ -140,7 +142,7 @@ pub fn step(list: &[u8], at: usize) -> Turn
 // ---- The words that are expected
 
 // Where a step's words stand: of a row, from a place on, so many; and whether the row has them all.
-#[derive(Drop)]
+#[derive(Clone, Copy)]
 pub struct Span {
     pub row: u64,
     pub at: usize,

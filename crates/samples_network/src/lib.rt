@@ -1,5 +1,7 @@
 // The calls of the network and of the journal in a sample, and a message's fate alone: the rows that they are lent, the calls, and what is
 // compared after each.
+#![tactic(auto)]
+
 ghost use Rattle.std.specs.Prelude.{◌≤◌, length};
 
 use samples_list::Turn;

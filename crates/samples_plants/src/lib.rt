@@ -1,4 +1,6 @@
 // The calls on the plants and the core in a sample: the rows that they are lent, the calls, and what is compared after each.
+#![tactic(auto)]
+
 ghost use Rattle.std.specs.Prelude.{◌≤◌, length};
 
 use samples_list::Turn;

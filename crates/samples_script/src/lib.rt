@@ -1,4 +1,6 @@
 // The calls on fault scripts in a sample: the rows that they are lent, the call, and what is compared after it.
+#![tactic(auto)]
+
 ghost use Rattle.std.specs.Prelude.{◌≤◌, length};
 
 use samples_list::Turn;

@@ -2,7 +2,7 @@
 ghost use Rattle.std.specs.Prelude.{◌≡◌};
 ghost use Rattle.script.specs.Faults.{fault_number, fault_id, needs_id, with_id, same, named_by};
 
-#[derive(Drop)]
+#[derive(Clone, Copy)]
 pub enum Fault {
     // Crash a plant; it keeps its state, as if paused.
     Crash(u64),
@@ -19,7 +19,7 @@ pub enum Fault {
 }
 
 // What a word names.
-#[derive(Drop)]
+#[derive(Clone, Copy)]
 pub enum Named {
     Is(Fault),
     Unknown,

@@ -1,4 +1,6 @@
 // Fault scripts: what to inject, and at which tick. The names are the Rust's.
+#![tactic(auto)]
+
 pub mod fault;
 pub mod line;
 
@@ -12,14 +14,14 @@ use fault::Fault;
 use line::{Line, Refusal};
 
 // What a script says: how many events it has, or why it is refused and at which line.
-#[derive(Drop)]
+#[derive(Clone, Copy)]
 pub enum Script {
     Events(usize),
     Refused(Refusal, usize),
 }
 
 // What one line adds: how many events were found up to its end, or why it is refused.
-#[derive(Drop)]
+#[derive(Clone, Copy)]
 pub enum Judged {
     Found(usize),
     Stopped(Refusal),

@@ -9,7 +9,7 @@ use crate::fault::{Fault, Named};
 use numeral::{Number, Why};
 
 // Why a word is no number, and at which place, counting its bytes from 0.
-#[derive(Drop)]
+#[derive(Clone, Copy)]
 pub struct Flaw {
     pub why: Why,
     pub byte: usize,
@@ -26,7 +26,7 @@ impl Flaw {
 }
 
 // Why a script is refused, in the order in which it is tested.
-#[derive(Drop)]
+#[derive(Clone, Copy)]
 pub enum Refusal {
     // The text is over 65,536 bytes.
     TooLong,
@@ -47,7 +47,7 @@ pub enum Refusal {
 }
 
 // What a line says.
-#[derive(Drop)]
+#[derive(Clone, Copy)]
 pub enum Line {
     Blank,
     Event(u64, Fault),

@@ -1,4 +1,6 @@
 // parse_script for a caller that has words alone: its answer in one word.
+#![tactic(auto)]
+
 ghost use Rattle.std.specs.Prelude.{◌≡◌, ◌<◌, length};
 ghost use Rattle.script.specs.Scripts.{refusal_byte, script_answer, script_words};
 ghost use Rattle.script_packed.specs.Packing.{byte_factor, answer_word};

@@ -1,5 +1,7 @@
 // What the program `faults` writes, made from the bytes that it read: the whole of the program but for
 // reading and writing.
+#![tactic(auto)]
+
 ghost use Rattle.std.specs.Prelude.{◌≡◌, ◌+◌, ◌*◌, ◌≤◌, length, take};
 ghost use Rattle.basis.specs.Basis.{laid};
 ghost use Rattle.numeral.specs.Writing.{decimal};
@@ -11,7 +13,7 @@ use script::Script;
 use script::line::Refusal;
 
 // How a report ended: with the number of bytes at the front of the slice, or with nothing written.
-#[derive(Drop)]
+#[derive(Clone, Copy)]
 pub enum Reported {
     Written(usize),
     NoRoom,

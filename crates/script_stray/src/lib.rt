@@ -1,5 +1,7 @@
 // Which line of a script has bytes over 127 where none may be. Before its `#` there may be none; behind it, in the clerk's own language,
 // those of well-formed UTF-8 (RFC 3629).
+#![tactic(auto)]
+
 ghost use Rattle.std.specs.Prelude.{◌≡◌, true, false, ◌+◌, ◌≤◌, ◌<◌, eqb, length, drop};
 ghost use Rattle.script_words.specs.Words.{until};
 ghost use Rattle.script_utf8.specs.Utf8.{after_first, sequences};
@@ -8,7 +10,7 @@ ghost use Rattle.script_stray.specs.Walk.{spot_of, spot_after, spot_ends, words_
 
 // Where the walk over a line stands: before its `#`; in its comment, between two characters; inside one, where a byte from `low` to `high`
 // must come and `more` continuation bytes behind it; or behind a byte that may not be there.
-#[derive(Drop)]
+#[derive(Clone, Copy)]
 enum Spot {
     Words,
     Between,

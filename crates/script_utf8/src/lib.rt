@@ -1,4 +1,6 @@
 // Whether bytes are surely well-formed UTF-8 (RFC 3629), by one walk without a branch, which a compiler makes many bytes at a time.
+#![tactic(auto)]
+
 ghost use Rattle.std.specs.Prelude.{◌≡◌, true};
 ghost use Rattle.script_utf8.specs.Utf8.{is_utf8};
 ghost use Rattle.script_utf8.specs.Sure.{wrong_at};

@@ -1,16 +1,18 @@
 // Words of a line: where they start and end. It stands where the Rust has split_whitespace.
+#![tactic(auto)]
+
 ghost use Rattle.std.specs.Prelude.{◌≡◌, ◌+◌, ◌≤◌, eqb, length, drop};
 ghost use Rattle.script_words.specs.Words.{is_space, not_space, until, word_from, first_words};
 
 // A word's place in its line. A word that is missing is empty and stands at the line's end.
-#[derive(Drop)]
+#[derive(Clone, Copy)]
 pub struct Bounds {
     pub start: usize,
     pub end: usize,
 }
 
 // The first three words of a line, named after what a script has there.
-#[derive(Drop)]
+#[derive(Clone, Copy)]
 pub struct FirstWords {
     pub tick: Bounds,
     pub name: Bounds,
@@ -86,14 +88,14 @@ pub fn word_from(line: &[u8], place: usize) -> Bounds
 }
 
 // A reader of a line's words: the line, and the place at or after which the next word is looked for.
-#[derive(Drop)]
+#[derive(Clone, Copy)]
 pub struct Reader<'a> {
     pub line: &'a [u8],
     pub at: usize,
 }
 
 // A word that was read, and the reader behind it.
-#[derive(Drop)]
+#[derive(Clone, Copy)]
 pub struct Read<'a> {
     pub word: Bounds,
     pub rest: Reader<'a>,
