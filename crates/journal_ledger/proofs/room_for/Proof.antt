@@ -1,4 +1,5 @@
--- `journal_ledger::room_for` meets its contract: the header, then the room behind it. Assumes nothing.
+use Rattle.journal_ledger.proofs.room_for.Statement.{statement}
+use Rattle.journal_ledger.proofs.room_for.Tie as tie
 use mathlib.Core.Path.{◌≡◌, sym, ◌∙◌}
 use mathlib.Core.Bool.{true}
 use native.Mathlib.Omega.{arith}
@@ -6,34 +7,31 @@ use borrow.Author.Tests.{not-true, not-false}
 use Rattle.nights.specs.Journal.{good_header}
 use Rattle.journal_ledger.proofs.Words.{Header, good_header_lem, bad_words, no_room, has_room}
 use borrow.Author.Rules.{rules}
-use Rattle.journal_ledger.proofs.room_for.Statement.{statement}
-use Rattle.journal_ledger.proofs.room_for.Tie as tie
 
-good : (c : tie.Else1) → good_header c.before.before.before.args.journal.now ≡ true
-good c = sym c.before.header-good.ensures ∙ not-false _ c.if1.false
+-- `journal_ledger::room_for` meets its contract: the header, then the room behind it. Assumes nothing.
+good : (c : tie.Else-not-header_good) → good_header c.args.journal.now ≡ true
+good c = sym c.header_good.ensures ∙ not-false _ c.if-not-header_good.false
 
-header : (c : tie.Else1) → Header c.before.before.before.args.journal.now
-header c = good_header_lem c.before.before.before.args.journal.now (good c)
+header : (c : tie.Else-not-header_good) → Header c.args.journal.now
+header c = good_header_lem c.args.journal.now (good c)
 
-header-good-requires : tie.Need-header-good-requires
+header-good-requires : tie.Need-header_good-requires
 header-good-requires c κs = search rules
 
-returns : tie.Need-returns
-returns c = bad_words c.before.before.before.args.journal.now c.before.before.before.args.size (sym c.before.header-good.ensures ∙ not-true _ c.if1.true)
+returns : tie.Need-returns-then-not-header_good
+returns c = bad_words c.args.journal.now c.args.size (sym c.header_good.ensures ∙ not-true _ c.if-not-header_good.true)
 
-shared-slice-read-if2 : tie.Need-shared-slice-read-if2
+shared-slice-read-if2 : tie.Need-bounds-journal-1
 shared-slice-read-if2 c = omega (arith, header c.before)
 
-sub-if2 : tie.Need-overflow-sub-if2
+sub-if2 : tie.Need-overflow_sub-journal
 sub-if2 c = (header c.before).high
 
-returns-2 : tie.Need-returns-2
-returns-2 c = no_room c.before.before.before.before.before.args.journal.now c.before.before.before.before.before.args.size (good c.before.before) (omega (arith, header c.before.before))
+returns-2 : tie.Need-returns-then-journal-size
+returns-2 c = no_room c.args.journal.now c.args.size (good c.before.before) (omega (arith, header c.before.before))
 
-returns-3 : tie.Need-returns-3
-returns-3 c = has_room c.before.before.before.before.before.args.journal.now c.before.before.before.before.before.args.size (good c.before.before) (omega (arith, header c.before.before))
+returns-3 : tie.Need-returns
+returns-3 c = has_room c.args.journal.now c.args.size (good c.before.before) (omega (arith, header c.before.before))
 
-pub room-for-spec : {M : Type 1} → statement M
-room-for-spec =
-    tie.close
-    (tie.spec header-good-requires returns shared-slice-read-if2 sub-if2 returns-2 returns-3)
+pub room_for_spec : {M : Type 1} → statement M
+room_for_spec = tie.close (tie.spec header-good-requires returns shared-slice-read-if2 sub-if2 returns-2 returns-3)

@@ -1,5 +1,5 @@
--- `journal_take::take_due` meets its contract: the plain call to words of its own, the tests of the lent output and of the journal, and then
--- both written. Assumes nothing.
+use Rattle.journal_take.proofs.take_due.Statement.{statement}
+use Rattle.journal_take.proofs.take_due.Tie as tie
 use Prim.Native.Nat.{ℕ, ◌+◌, ◌*◌, ◌≤◌}
 use mathlib.Core.Path.{◌≡◌, refl, sym, ap, ◌∙◌}
 use mathlib.Core.List.{List, [], ◌∷◌, ◌++◌}
@@ -22,10 +22,10 @@ use Rattle.journal_ledger.proofs.Words.{roomy}
 use Rattle.journal_calls.proofs.Journaled.{refused_first, refused_then, accepted}
 use Rattle.journal_take.proofs.Takes.{over_front, told_done, told_refused, own_refused, own_small, lent_short, lent_well, same_network, record_size, length_last, taken_front, the_record}
 use borrow.Author.Rules.{rules}
-use Rattle.journal_take.proofs.take_due.Statement.{statement}
-use Rattle.journal_take.proofs.take_due.Tie as tie
 
-module _ (c : tie.After-take-due) where
+-- `journal_take::take_due` meets its contract: the plain call to words of its own, the tests of the lent output and of the journal, and then
+-- both written. Assumes nothing.
+module _ (c : tie.After-take_due-taken) where
   abbrev start : tie.Start
   start = c.before.before.before.before
 
@@ -48,167 +48,167 @@ module _ (c : tie.After-take-due) where
   due = keep (is_due at) (plain_of network).pending
 
 -- once so many were taken
-module _ (c : tie.After-known-told) where
-  abbrev plain : tie.After-take-due
+module _ (c : tie.In-Records) where
+  abbrev plain : tie.After-take_due-taken
   plain = c.before.before.before.before
 
   abbrev count : ℕ
-  count = c.before.answer.given.0.0
+  count = c.answer-1.given.0.0
 
   told : (call_answer (collect (at plain) 1024) (network plain) ≡ done) × (count ≡ length (due plain))
   told =
       told_done (call_answer (collect (at plain) 1024) (network plain)) (length (due plain)) count
-      (sym (ap counted_of c.before.answer.given.1) ∙ plain.take-due.ensures.1.0)
+      (sym (ap counted_of c.answer-1.given.1) ∙ plain.take_due-taken.ensures.1.0)
 
   small : count * 8 ≤ 1024
   small = own_small (network plain) (at plain) 0 told.0 count told.1
 
   -- its own words
   abbrev array : List ℕ
-  array = plain.take-due.last.1.1.0 ++ (0 ∷ 0 ∷ [])
+  array = plain.take_due-taken.new.1.1.0 ++ (0 ∷ 0 ∷ [])
 
   long : length array ≡ 1026
   long =
       omega (
         arith,
-        length-append plain.take-due.last.1.1.0 (0 ∷ 0 ∷ []),
-        length_last (network plain) (at plain) 0 told.0 count told.1 plain.take-due.last.1.1.0 _ 0 0 refl plain.take-due.ensures.1.1,
+        length-append plain.take_due-taken.new.1.1.0 (0 ∷ 0 ∷ []),
+        length_last (network plain) (at plain) 0 told.0 count told.1 plain.take_due-taken.new.1.1.0 _ 0 0 refl plain.take_due-taken.ensures.1.1,
       )
 
   taken : take (count * 8) array ≡ record_words (due plain)
-  taken = taken_front (network plain) (at plain) 0 told.0 count told.1 plain.take-due.last.1.1.0 _ 0 0 refl plain.take-due.ensures.1.1
+  taken = taken_front (network plain) (at plain) 0 told.0 count told.1 plain.take_due-taken.new.1.1.0 _ 0 0 refl plain.take_due-taken.ensures.1.1
 
   abbrev ended : List ℕ
   ended = set (set array (count * 8) 2) (count * 8 + 1) (count * 8 + 2)
 
   wrote : take (count * 8 + 2) ended ≡ undo_words (call plain) (plain_of (network plain))
   wrote =
-      the_record (network plain) (at plain) (length (output plain)) told.0 count told.1 plain.take-due.last.1.1.0 _ 0 0 refl
-      plain.take-due.ensures.1.1
+      the_record (network plain) (at plain) (length (output plain)) told.0 count told.1 plain.take_due-taken.new.1.1.0 _ 0 0 refl
+      plain.take_due-taken.ensures.1.1
 
 -- and once the journal has room
-module _ (c : tie.After-enum-told2) where
-  abbrev known : tie.After-known-told
-  known = c.before.before.before.before.before
+module _ (c : tie.In_default-room_for) where
+  abbrev known : tie.In-Records
+  known = c.before.before.before.before
 
   room : verdict (journal_tests (words (plain known)) (count known * 8 + 2)) ≡ done
-  room = sym c.before.before.room_for.ensures ∙ ap settled_of c.enum-told2.given.1
+  room = sym c.room_for.ensures ∙ ap settled_of c.enum_told-in_default-room_for-1.given.1
 
   well : call_answer (call (plain known)) (network (plain known)) ≡ done
   well =
       lent_well (network (plain known)) (at (plain known)) (length (output (plain known))) (told known).0 (count known) (told known).1
-      c.before.before.before.before.if1.false
+      c.if-out-size.false
 
-array-borrow-prefix-record : tie.Need-array-borrow-prefix-record
+array-borrow-prefix-record : tie.Need-slice_bounds-record-end
 array-borrow-prefix-record c = search rules
 
-slice-aggregate-take-due : tie.Need-slice-aggregate-take-due
+slice-aggregate-take-due : tie.Need-slice_bounds-take_due-end
 slice-aggregate-take-due c = search rules
 
-take-due-requires : tie.Need-take-due-requires
+take-due-requires : tie.Need-take_due-taken-requires
 take-due-requires c κs = search rules
 
-enum-known-answer : tie.Need-enum-known-answer
+enum-known-answer : tie.Need-enum_known-answer
 enum-known-answer c = search rules
 
-enum_told : tie.Need-enum-told
+enum_told : tie.Need-enum_told-1
 enum_told c = search rules
 
-returns : tie.Need-returns
+returns : tie.Need-returns-in_default
 unfolding counting if_done
 returns c =
     let p = c.before.before.before in
-    let n = p.take-due.ensures in
-    let r = ap counted_of c.enum_told.given.1 in
+    let n = p.take_due-taken.ensures in
+    let r = ap counted_of c.enum_told-1.given.1 in
     let e = told_refused (call_answer (collect (at p) 1024) (network p)) (length (due p)) _ (sym r ∙ n.1.0) in
     let m = refused_first (call p) (network p) (words p) _ (own_refused (network p) (at p) (length (output p)) _ e) in (
       n.0 ∙ (sym (stays (network p) (collect (at p) 1024) _ e) ∙ m.network),
       (r ∙ ap (λ (a : Answer). counting a (length (due p))) m.answer, (ap (λ (a : Answer). written a (record_words (due p)) (output p)) m.answer, m.words)),
     )
 
-mul-size : tie.Need-overflow-mul-size
+mul-size : tie.Need-overflow_mul-size
 mul-size c = omega (arith, small c)
 
-refused-take-requires : tie.Need-refused-take-requires
+refused-take-requires : tie.Need-refused_take-requires
 refused-take-requires c κs = search rules
 
-returns-2 : tie.Need-returns-2
+returns-2 : tie.Need-returns-then-out-size
 unfolding counting if_done
 returns-2 c =
     let k = c.before.before in
     let p = plain k in
-    let e = lent_short (network p) (at p) (length (output p)) (told k).0 (count k) (told k).1 c.before.if1.true in
+    let e = lent_short (network p) (at p) (length (output p)) (told k).0 (count k) (told k).1 c.if-out-size.true in
     let m = refused_first (call p) (network p) (words p) 30 e in
-    let r = c.refused-take.ensures in
+    let r = c.refused_take.ensures in
     (r.0 ∙ m.network, (r.1 ∙ ap (λ (a : Answer). counting a (length (due p))) m.answer, (ap (λ (a : Answer). written a (record_words (due p)) (output p)) m.answer, m.words)))
 
-add-room-for : tie.Need-overflow-add-room-for
+add-room-for : tie.Need-overflow_add-size
 add-room-for c = search rules
 
-room-for-requires : tie.Need-room-for-requires
+room-for-requires : tie.Need-room_for-requires
 room-for-requires c κs = search rules
 
-enum-known-refusal : tie.Need-enum-known-refusal
+enum-known-refusal : tie.Need-enum_known-refusal
 enum-known-refusal c = search rules
 
-enum-told-2 : tie.Need-enum-told-2
+enum-told-2 : tie.Need-enum_told-in_default-room_for
 enum-told-2 c = search rules
 
-array-share-prefix-record : tie.Need-array-share-prefix-record
-array-share-prefix-record c = let k = c.before.before.before.before.before.before in omega (arith, small k, long k)
+array-share-prefix-record : tie.Need-slice_bounds-record-end-in_default-room_for
+array-share-prefix-record c = let k = c.before.before.before.before.before in omega (arith, small k, long k)
 
-slice-aggregate-write-at : tie.Need-slice-aggregate-write-at
-slice-aggregate-write-at c = let k = c.before.before.before.before.before.before.before in sym (length-take-le _ (array k) (omega (arith, small k, long k)))
+slice-aggregate-write-at : tie.Need-slice_bounds-write_at-end
+slice-aggregate-write-at c = let k = c.before.before.before.before.before.before in sym (length-take-le _ (array k) (omega (arith, small k, long k)))
 
-write-at-requires : tie.Need-write-at-requires
-write-at-requires c κs = let k = c.before.before.before.before.before.before.before in omega (arith, length-take-le (count k * 8) (array k) (omega (arith, small k, long k)), c.before.before.before.before.before.before.if1.false)
+write-at-requires : tie.Need-write_at-requires
+write-at-requires c κs = let k = c.before.before.before.before.before.before in omega (arith, length-take-le (count k * 8) (array k) (omega (arith, small k, long k)), c.if-out-size.false)
 
-mul-record : tie.Need-overflow-mul-record
+mul-record : tie.Need-offset_bounds-record-size
 mul-record c = search rules
 
-array-write-record : tie.Need-array-write-record
-array-write-record c = omega (arith, small c.before.before.before.before.before.before.before.before.before.before)
+array-write-record : tie.Need-bounds-record-size
+array-write-record c = omega (arith, small c.before.before.before.before.before.before.before.before.before)
 
-add-record : tie.Need-overflow-add-record
+add-record : tie.Need-overflow_add-record
 add-record c = search rules
 
-add-record-2 : tie.Need-overflow-add-record-2
+add-record-2 : tie.Need-overflow_add-record-in_default-room_for
 add-record-2 c = search rules
 
-mul-record-2 : tie.Need-overflow-mul-record-2
+mul-record-2 : tie.Need-offset_bounds-record-size-in_default-room_for
 mul-record-2 c = search rules
 
-array-write-record-2 : tie.Need-array-write-record-2
-array-write-record-2 c = omega (arith, small c.before.before.before.before.before.before.before.before.before.before)
+array-write-record-2 : tie.Need-bounds-record-size-in_default-room_for
+array-write-record-2 c = omega (arith, small c.before.before.before.before.before.before.before.before.before)
 
-add-record-3 : tie.Need-overflow-add-record-3
+add-record-3 : tie.Need-overflow_add-record-in_default-room_for-2
 add-record-3 c = search rules
 
-array-share-prefix-record-2 : tie.Need-array-share-prefix-record-2
-array-share-prefix-record-2 c = let k = c.before.before.before.before.before.before.before.before.before.before.before in simp length-set (omega (arith, small k, long k))
+array-share-prefix-record-2 : tie.Need-slice_bounds-record-end-in_default-room_for-2
+array-share-prefix-record-2 c = let k = c.before.before.before.before.before.before.before.before.before.before in simp length-set (omega (arith, small k, long k))
 
-slice-aggregate-append : tie.Need-slice-aggregate-append
-slice-aggregate-append c = let k = c.before.before.before.before.before.before.before.before.before.before.before.before in sym (length-take-le _ _ (simp length-set (omega (arith, small k, long k))))
+slice-aggregate-append : tie.Need-slice_bounds-append-end
+slice-aggregate-append c = let k = c.before.before.before.before.before.before.before.before.before.before.before in sym (length-take-le _ _ (simp length-set (omega (arith, small k, long k))))
 
 append-requires : tie.Need-append-requires
 append-requires c κs =
-    let k = c.before.before.before.before.before.before.before.before.before.before.before.before in
+    let k = c.before.before.before.before.before.before.before.before.before.before.before in
     let r = roomy (words (plain k)) (count k * 8 + 2) (room c.before.before.before.before.before.before.before) in
     (r.0, simp length-take (omega (arith, r.1)))
 
-same_length : tie.Need-same-length
+same_length : tie.Need-shape_of-out-in_default-room_for
 same_length c = search rules
 
-same-length-2 : tie.Need-same-length-2
+same-length-2 : tie.Need-shape_of-journal-in_default-room_for
 same-length-2 c = search rules
 
-returns-3 : tie.Need-returns-3
+returns-3 : tie.Need-returns-in_default-room_for
 unfolding if_done
 returns-3 c =
     let q = c.before.before.before.before.before.before.before.before.before.before in
     let k = known q in
     let p = plain k in
-    let n = p.take-due.ensures in
+    let n = p.take_due-taken.ensures in
     let z = record_size (network p) (at p) (length (output p)) (told k).0 (count k) (told k).1 in
     let m = accepted (call p) (network p) (words p) (well q) (undo_words (call p) (plain_of (network p))) refl (rw (← z) (room q)) in
     let d = sym (well q) ∙ m.answer in (
@@ -216,66 +216,32 @@ returns-3 c =
       (
         n.1.0 ∙ ap (λ (a : Answer). counting a (length (due p))) ((told k).0 ∙ d),
         (
-          c.before.before.before.before.before.before.before.write-at.ensures
+          c.write_at.ensures
               ∙ (ap (λ (x : List ℕ). laid (output p) 0 x) (taken k)
               ∙ (over_front (output p) (record_words (due p)) ∙ ap (λ (a : Answer). written a (record_words (due p)) (output p)) d)),
-          c.before.before.append.ensures ∙ (ap (λ (x : List ℕ). logged (words p) x) (wrote k) ∙ m.words),
+          c.append.ensures ∙ (ap (λ (x : List ℕ). logged (words p) x) (wrote k) ∙ m.words),
         ),
       ),
     )
 
-refused-take-requires-2 : tie.Need-refused-take-requires-2
+refused-take-requires-2 : tie.Need-refused_take-requires-2
 refused-take-requires-2 c κs = search rules
 
-same-length-3 : tie.Need-same-length-3
+same-length-3 : tie.Need-shape_of-journal
 same-length-3 c = search rules
 
-returns-4 : tie.Need-returns-4
+returns-4 : tie.Need-returns
 unfolding counting if_done
 returns-4 c =
     let q = c.before.before.before.before in
-    let k = q.before.before.before in
+    let k = q.before.before in
     let p = plain k in
-    let e = lent_well (network p) (at p) (length (output p)) (told k).0 (count k) (told k).1 q.before.before.if1.false in
-    let j = sym q.room_for.ensures ∙ ap settled_of c.before.before.refusal.given.1 in
+    let e = lent_well (network p) (at p) (length (output p)) (told k).0 (count k) (told k).1 q.if-out-size.false in
+    let j = sym q.room_for.ensures ∙ ap settled_of c.refusal-1.given.1 in
     let z = record_size (network p) (at p) (length (output p)) (told k).0 (count k) (told k).1 in
     let m = refused_then (call p) (network p) (words p) e _ _ z j in
-    let r = c.refused-take2.ensures in
+    let r = c.refused_take-2.ensures in
     (r.0 ∙ m.network, (r.1 ∙ ap (λ (a : Answer). counting a (length (due p))) m.answer, (ap (λ (a : Answer). written a (record_words (due p)) (output p)) m.answer, m.words)))
 
-pub take-due-spec : {M : Type 1} → statement M
-take-due-spec =
-    tie.close
-    (tie.spec
-    array-borrow-prefix-record
-    slice-aggregate-take-due
-    take-due-requires
-    enum-known-answer
-    enum_told
-    returns
-    mul-size
-    refused-take-requires
-    returns-2
-    add-room-for
-    room-for-requires
-    enum-known-refusal
-    enum-told-2
-    array-share-prefix-record
-    slice-aggregate-write-at
-    write-at-requires
-    mul-record
-    array-write-record
-    add-record
-    add-record-2
-    mul-record-2
-    array-write-record-2
-    add-record-3
-    array-share-prefix-record-2
-    slice-aggregate-append
-    append-requires
-    same_length
-    same-length-2
-    returns-3
-    refused-take-requires-2
-    same-length-3
-    returns-4)
+pub take_due_spec : {M : Type 1} → statement M
+take_due_spec = tie.close (tie.spec array-borrow-prefix-record slice-aggregate-take-due take-due-requires enum-known-answer enum_told returns mul-size refused-take-requires returns-2 add-room-for room-for-requires enum-known-refusal enum-told-2 array-share-prefix-record slice-aggregate-write-at write-at-requires mul-record array-write-record add-record add-record-2 mul-record-2 array-write-record-2 add-record-3 array-share-prefix-record-2 slice-aggregate-append append-requires same_length same-length-2 returns-3 refused-take-requires-2 same-length-3 returns-4)

@@ -1,4 +1,5 @@
--- `journal_words::take_due` meets its contract: the journal's take on the network of the words. Assumes nothing.
+use Rattle.journal_words.proofs.take_due.Statement.{statement}
+use Rattle.journal_words.proofs.take_due.Tie as tie
 use mathlib.Core.Path.{◌≡◌, ap, ◌∙◌}
 use mathlib.Core.Bool.{true, false}
 use borrow.Author.Tests.{not-true, not-false}
@@ -22,9 +23,8 @@ use Rattle.journal_words.proofs.Told.{Kept, unread}
 use Rattle.network_words.proofs.Told.{taken_refused, taken_done, taken_told}
 use Rattle.journal_words.proofs.After.{Left, left, Written, wrote}
 use borrow.Author.Rules.{rules}
-use Rattle.journal_words.proofs.take_due.Statement.{statement}
-use Rattle.journal_words.proofs.take_due.Tie as tie
 
+-- `journal_words::take_due` meets its contract: the journal's take on the network of the words. Assumes nothing.
 -- the network of the words, the call, its answer, and what is due
 abbrev whole : tie.Start → Network
 whole c = network_in c.args.head.now c.args.records.now
@@ -38,16 +38,15 @@ answer c = answer_of (call c) (whole c) c.args.journal.now
 abbrev due : tie.Start → List Record
 due c = keep (is_due c.args.now) (plain_of (whole c)).pending
 
-fits : (c : tie.Else1) → head_fits c.before.before.before.before.before.before.args.head.now ≡ true
-fits c = told_fits _ _ c.before.before.load.ensures true (not-false _ c.if1.false)
+fits : (c : tie.Else-not-loaded) → head_fits c.args.head.now ≡ true
+fits c = told_fits _ _ c.load-loaded.ensures true (not-false _ c.if-not-loaded.false)
 
 -- ---- the journal's call was made on the network of the words
+read_is : (c : tie.After-read-network) → c.read-network.result ≡ whole c.before.before.before.before.before.before.before
+read_is c = c.read-network.ensures ∙ ap (λ (h : Head). network_of h c.args.records.now) (head_read _ _ c.load-loaded.ensures (fits c.before.before))
 
-read_is : (c : tie.After-read) → c.read.result ≡ whole c.before.before.before.before.before.before.before.before
-read_is c = c.read.ensures ∙ ap (λ (h : Head). network_of h c.before.before.before.before.before.before.before.before.args.records.now) (head_read _ _ c.before.before.before.before.load.ensures (fits c.before.before))
-
-abbrev start : tie.After-take-due → tie.Start
-start c = c.before.before.before.before.before.before.before.before.before.before.before
+abbrev start : tie.After-take_due-taken → tie.Start
+start c = c.before.before.before.before.before.before.before.before.before.before
 
 record Called (c : tie.After-take-due) : Type 0 where
   network : c.take-due.result.network ≡ network_after (call (start c)) (whole (start c)) (start c).args.journal.now
@@ -55,73 +54,73 @@ record Called (c : tie.After-take-due) : Type 0 where
   out : c.take-due.new.1.1.0 ≡ written (journal_answer (call (start c)) (start c).args.head.now (start c).args.records.now (start c).args.journal.now) (record_words (due (start c))) (start c).args.out.now
   words : c.take-due.new.1.1.1.0 ≡ words_after (call (start c)) (whole (start c)) (start c).args.journal.now
 
-called : (c : tie.After-take-due) → Called c
+called : (c : tie.After-take_due-taken) → Called c
 called c =
     let b = start c in
-    let e = rw (read_is c.before.before.before) at c.take-due.ensures in
+    let e = rw (read_is c.before.before.before) at c.take_due-taken.ensures in
     record { network = e.0; tells = e.1.0; out = rw (a_head b.args.head.now (answer b) (fits c.before.before.before.before.before)) e.1.1.0; words = e.1.1.1 }
 
-accepted : (c : tie.After-answer2) → let x = c.before.before.before.before.before.before in let b = start x in
-    Written (call b) b.args.head.now b.args.records.now b.args.journal.now (fits x.before.before.before.before.before) x.take-due.result.network x.take-due.new.1.1.1.0 (called x).network (called x).words
+accepted : (c : tie.In-Records-2) → let x = c.before.before.before.before.before.before in let b = start x in
+    Written (call b) b.args.head.now b.args.records.now b.args.journal.now (fits x.before.before.before.before.before) x.take_due-taken.result.network x.take_due-taken.new.1.1.1.0 (called x).network (called x).words
 accepted c =
     let x = c.before.before.before.before.before.before in
-    wrote _ _ _ _ (fits x.before.before.before.before.before) _ _ (called x).network (called x).words (taken_done _ _ _ (called x).tells _ c.answer2.given.1)
+    wrote _ _ _ _ (fits x.before.before.before.before.before) _ _ (called x).network (called x).words (taken_done _ _ _ (called x).tells _ c.answer-in-Records-1.given.1)
 
-load-requires : tie.Need-load-requires
+load-requires : tie.Need-load-loaded-requires
 load-requires c κs = search rules
 
-returns : tie.Need-returns
+returns : tie.Need-returns-then-not-loaded
 returns c =
-    let b = c.before.before.before.before.before.before in
+    let b = c.before.before.before.before.before in
     let k : Kept (journal_answer (call b) b.args.head.now b.args.records.now b.args.journal.now) 23 =
-    unread _ (answer b) (told_fits _ _ c.before.before.load.ensures false (not-true _ c.if1.true)) in
+    unread _ (answer b) (told_fits _ _ c.load-loaded.ensures false (not-true _ c.if-not-loaded.true)) in
     (k.number, (k.words _ _, (k.words _ _, (k.words _ _, (k.words _ _, k.words _ _)))))
 
-read-requires : tie.Need-read-requires
+read-requires : tie.Need-read-network-requires
 read-requires c κs = search rules
 
-take-due-requires : tie.Need-take-due-requires
+take-due-requires : tie.Need-take_due-taken-requires
 take-due-requires c κs = search rules
 
-enum-known-answer : tie.Need-enum-known-answer
+enum-known-answer : tie.Need-enum_known-answer
 enum-known-answer c = search rules
 
-number-of-requires : tie.Need-number-of-requires
+number-of-requires : tie.Need-number_of-requires
 number-of-requires c κs = search rules
 
-enum-known-answer-2 : tie.Need-enum-known-answer-2
+enum-known-answer-2 : tie.Need-enum_known-answer-in-Records-1
 enum-known-answer-2 c = search rules
 
 write-requires : tie.Need-write-requires
-write-requires c κs = (accepted c.before.before.before).formed
+write-requires c κs = (accepted c.before.before.before.before).formed
 
-same_length : tie.Need-same-length
+same_length : tie.Need-shape_of-out-in-Refused
 same_length c = search rules
 
-same-length-2 : tie.Need-same-length-2
+same-length-2 : tie.Need-shape_of-journal-in-Refused
 same-length-2 c = search rules
 
-returns-2 : tie.Need-returns-2
+returns-2 : tie.Need-returns-in-Refused
 returns-2 c =
     let x = c.before.before.before.before.before.before.before.before in
     let b = start x in
     let m = called x in
     let l : Left (call b) b.args.head.now b.args.records.now b.args.journal.now (fits x.before.before.before.before.before) _ _ m.network m.words _ =
-    left _ _ _ _ _ _ _ _ _ _ (taken_refused _ _ _ m.tells _ c.before.before.answer.given.1) in
-    (c.number_of_lem.ensures ∙ l.kept.number, (l.kept.words _ _, (l.kept.words _ _, (m.out, (l.journal, l.kept.words _ _)))))
+    left _ _ _ _ _ _ _ _ _ _ (taken_refused _ _ _ m.tells _ c.answer-1.given.1) in
+    (c.number_of.ensures ∙ l.kept.number, (l.kept.words _ _, (l.kept.words _ _, (m.out, (l.journal, l.kept.words _ _)))))
 
-same-length-3 : tie.Need-same-length-3
+same-length-3 : tie.Need-shape_of-out-in-Records
 same-length-3 c = search rules
 
-same-length-4 : tie.Need-same-length-4
+same-length-4 : tie.Need-shape_of-journal-in-Records
 same-length-4 c = search rules
 
-returns-3 : tie.Need-returns-3
+returns-3 : tie.Need-returns-in-Records
 returns-3 c =
-    let y = c.before.before.before.before.before in
+    let y = c.before.before.before.before.before.before in
     let x = y.before.before.before.before.before.before in
     let w = accepted y in
-    let e = c.before.write.ensures in (
+    let e = c.write.ensures in (
       w.finished.number,
       (
         e.0 ∙ w.head,
@@ -129,27 +128,11 @@ returns-3 c =
           e.1 ∙ w.records,
           (
             (called x).out,
-            (w.journal, ap (λ (n : ℕ). n ∷ []) (taken_told _ _ _ (called x).tells _ y.answer2.given.1) ∙ w.finished.words _ _),
+            (w.journal, ap (λ (n : ℕ). n ∷ []) (taken_told _ _ _ (called x).tells _ y.answer-in-Records-1.given.1) ∙ w.finished.words _ _),
           ),
         ),
       ),
     )
 
-pub take-due-spec : {M : Type 1} → statement M
-take-due-spec =
-    tie.close
-    (tie.spec
-    load-requires
-    returns
-    read-requires
-    take-due-requires
-    enum-known-answer
-    number-of-requires
-    enum-known-answer-2
-    write-requires
-    same_length
-    same-length-2
-    returns-2
-    same-length-3
-    same-length-4
-    returns-3)
+pub take_due_spec : {M : Type 1} → statement M
+take_due_spec = tie.close (tie.spec load-requires returns read-requires take-due-requires enum-known-answer number-of-requires enum-known-answer-2 write-requires same_length same-length-2 returns-2 same-length-3 same-length-4 returns-3)

@@ -1,4 +1,5 @@
--- `network_batch::run_sends` meets its contract: each way out in turn. Assumes nothing.
+use Rattle.network_batch.proofs.run_sends.Statement.{statement}
+use Rattle.network_batch.proofs.run_sends.Tie as tie
 use Prim.Native.Nat.{ℕ, ◌*◌, ◌/◌, ◌≤◌}
 use mathlib.Core.Path.{◌≡◌, refl, sym, ap, ◌∙◌}
 use mathlib.Core.Bool.{Bool, true, false}
@@ -19,92 +20,88 @@ use Rattle.network_batch.specs.Ticks.{message_words, most_messages, sends_from, 
 use Rattle.network_batch.proofs.Sending.{Whole, Stop, stop, ran_stopped}
 use Rattle.network_batch.proofs.Undoing.{undone}
 use Rattle.network_batch.proofs.Ticking.{unread, ill_formed, too_many, broken, sends_run, unsent_run}
-use Rattle.network_batch.proofs.run_sends.Statement.{statement}
-use Rattle.network_batch.proofs.run_sends.Tie as tie
 
+-- `network_batch::run_sends` meets its contract: each way out in turn. Assumes nothing.
 -- ---- the head was read
-
-abbrev read : tie.Else1 → tie.Start
+abbrev read : tie.Else-not-loaded → tie.Start
 read c = c.before.before.before.before.before.before
 
-fits : (c : tie.Else1) → head_fits (read c).args.head.now ≡ true
-fits c = told_fits _ _ c.before.before.load.ensures true (not-false _ c.if1.false)
+fits : (c : tie.Else-not-loaded) → head_fits (read c).args.head.now ≡ true
+fits c = told_fits _ _ c.load-loaded.ensures true (not-false _ c.if-not-loaded.false)
 
 -- ---- the network was tested
-
 abbrev tested : tie.After-formed → tie.Start
-tested c = read c.before.before.before.before
+tested c = read c.before.before.before
 
-head_is : (c : tie.After-formed) → c.before.before.before.before.before.before.load.result.head ≡ head_in (tested c).args.head.now
-head_is c = head_read _ _ c.before.before.before.before.before.before.load.ensures (fits c.before.before.before.before)
+head_is : (c : tie.After-formed) → c.load-loaded.result.head ≡ head_in (tested c).args.head.now
+head_is c = head_read _ _ c.load-loaded.ensures (fits c.before.before.before)
 
 is_formed : (c : tie.After-formed) (b : Bool) → c.formed.result ≡ b → formed_in (head_in (tested c).args.head.now) (tested c).args.records.now ≡ b
 is_formed c b e = ap (λ (h : Head). formed_in h (tested c).args.records.now) (sym (head_is c)) ∙ (sym c.formed.ensures ∙ e)
 
-well : (c : tie.Else2) → formed_in (head_in (tested c.before).args.head.now) (tested c.before).args.records.now ≡ true
-well c = is_formed c.before true (not-false _ c.if2.false)
+well : (c : tie.Else-not-formed) → formed_in (head_in (tested c.before).args.head.now) (tested c.before).args.records.now ≡ true
+well c = is_formed c.before true (not-false _ c.if-not-formed.false)
 
 -- ---- the messages were sent
+abbrev else2 : tie.After-send_all-run → tie.Else-not-formed
+else2 x = x.before.before.before.before.before
 
-abbrev else2 : tie.After-send-all → tie.Else2
-else2 x = x.before.before.before.before
-
-abbrev else1 : tie.After-send-all → tie.Else1
+abbrev else1 : tie.After-send_all-run → tie.Else-not-loaded
 else1 x = (else2 x).before.before.before.before.before
 
-abbrev start : tie.After-send-all → tie.Start
+abbrev start : tie.After-send_all-run → tie.Start
 start x = read (else1 x)
 
-abbrev loaded : tie.After-send-all → Head
-loaded x = (else1 x).before.before.load.result.head
+abbrev loaded : tie.After-send_all-run → Head
+loaded x = (else1 x).load-loaded.result.head
 
-few : (x : tie.After-send-all) → length (start x).args.sends.now / message_words ≤ most_messages
-few x = x.before.before.before.if3.false
+few : (x : tie.After-send_all-run) → length (start x).args.sends.now / message_words ≤ most_messages
+few x = x.if-count-gt-MOST.false
 
-even : (x : tie.After-send-all) → length (start x).args.sends.now ≡ message_words * (length (start x).args.sends.now / message_words)
-even x = omega (arith, x.before.before.if4.false)
+even : (x : tie.After-send_all-run) → length (start x).args.sends.now ≡ message_words * (length (start x).args.sends.now / message_words)
+even x = omega (arith, x.if-count-sends.false)
 
-sends_are : (x : tie.After-send-all) → let a = (start x).args in
-    ran_of x.send-all.result x.send-all.new.0 ≡ sends_from a.sends.now a.draws.now a.extras.now (length a.sends.now / message_words) 0 0 0 (head_in a.head.now) a.records.now
+sends_are : (x : tie.After-send_all-run) → let a = (start x).args in
+    ran_of x.send_all-run.result x.send_all-run.new.0 ≡ sends_from a.sends.now a.draws.now a.extras.now (length a.sends.now / message_words) 0 0 0 (head_in a.head.now) a.records.now
 sends_are x =
     let a = (start x).args in
-    x.send-all.ensures.0
+    x.send_all-run.ensures.0
     ∙ ap (λ (h : Head). sends_from a.sends.now a.draws.now a.extras.now (length a.sends.now / message_words) 0 0 0 h a.records.now) (head_is (else2 x).before)
 
-ran : (x : tie.After-send-all) → let a = (start x).args in
-    ran_of x.send-all.result x.send-all.new.0 ≡ batch_ran a.head.now a.records.now a.sends.now a.draws.now a.extras.now
+ran : (x : tie.After-send_all-run) → let a = (start x).args in
+    ran_of x.send_all-run.result x.send_all-run.new.0 ≡ batch_ran a.head.now a.records.now a.sends.now a.draws.now a.extras.now
 ran x =
     let a = (start x).args in
     sends_are x
     ∙ sym (sends_run a.head.now a.records.now a.sends.now a.draws.now a.extras.now (fits (else1 x)) (well (else2 x)) (few x) (even x))
 
-stopping : (x : tie.After-send-all) → (x.send-all.result.refusal ≡ 0 → ⊥) → Stop 0 (length (start x).args.sends.now / message_words) x.send-all.result.refusal x.send-all.result.place
+stopping : (x : tie.After-send_all-run) → (x.send_all-run.result.refusal ≡ 0 → ⊥) → Stop 0 (length (start x).args.sends.now / message_words) x.send_all-run.result.refusal x.send_all-run.result.place
 stopping x n =
     let a = (start x).args in
     stop a.sends.now a.draws.now a.extras.now (length a.sends.now / message_words) 0 0 0 (head_in a.head.now) a.records.now _ _ (sym (sends_are x) ∙ ran_stopped _ _ n)
 
-whole_before : (x : tie.After-send-all) → Whole (loaded x) (start x).args.records.now
+whole_before : (x : tie.After-send_all-run) → Whole (loaded x) (start x).args.records.now
 whole_before x =
     let y = else2 x in
-    record { formed = sym y.before.formed.ensures ∙ not-false _ y.if2.left; long = y.before.before.before.whole.ensures }
+    record { formed = sym y.formed.ensures ∙ not-false _ y.if-not-formed.left; long = y.whole.ensures }
 
 -- without the newer records there is what came
-came : (x : tie.After-send-all) (z : List ℕ) → z ≡ packed (keep (up_to (loaded x).seq) (recs x.send-all.new.0 0 x.send-all.result.head.pending))
+came : (x : tie.After-send_all-run) (z : List ℕ) → z ≡ packed (keep (up_to (loaded x).seq) (recs x.send_all-run.new.0 0 x.send_all-run.result.head.pending))
     → z ≡ (start x).args.records.now
 came x z p =
-    undone (loaded x) (start x).args.records.now x.send-all.result.head x.send-all.new.0 (whole_before x) x.send-all.ensures.1.1 z p
+    undone (loaded x) (start x).args.records.now x.send_all-run.result.head x.send_all-run.new.0 (whole_before x) x.send_all-run.ensures.1.1 z p
 
-load-requires : tie.Need-load-requires
+load-requires : tie.Need-load-loaded-requires
 load-requires c κs = search rules
 
 unsent-requires : tie.Need-unsent-requires
 unsent-requires c κs = search rules
 
-returns : tie.Need-returns
+returns : tie.Need-returns-then-not-loaded
 returns c =
-    let a = c.before.before.before.before.before.before.before.args in
+    let a = c.args in
     unsent_run _ _ _ 23 0 c.unsent.ensures
-    (unread a.head.now a.records.now a.sends.now a.draws.now a.extras.now (told_fits _ _ c.before.before.before.load.ensures false (not-true _ c.before.if1.true)))
+    (unread a.head.now a.records.now a.sends.now a.draws.now a.extras.now (told_fits _ _ c.load-loaded.ensures false (not-true _ c.if-not-loaded.true)))
     (λ z. omega arith) (omega arith) (omega arith)
 
 whole-requires : tie.Need-whole-requires
@@ -113,56 +110,56 @@ whole-requires c κs = search rules
 formed-requires : tie.Need-formed-requires
 formed-requires c κs = search rules
 
-unsent-requires-2 : tie.Need-unsent-requires-2
+unsent-requires-2 : tie.Need-unsent-requires-then-not-formed
 unsent-requires-2 c κs = search rules
 
-returns-2 : tie.Need-returns-2
+returns-2 : tie.Need-returns-then-not-formed
 returns-2 c =
-    let y = c.before.before in
+    let y = c.before.before.before in
     let a = (tested y).args in
-    unsent_run _ _ _ 23 0 c.unsent2.ensures
-    (ill_formed a.head.now a.records.now a.sends.now a.draws.now a.extras.now (fits y.before.before.before.before) (is_formed y false (not-true _ c.before.if2.true)))
+    unsent_run _ _ _ 23 0 c.unsent-then-not-formed.ensures
+    (ill_formed a.head.now a.records.now a.sends.now a.draws.now a.extras.now (fits y.before.before.before) (is_formed y false (not-true _ c.if-not-formed.true)))
     (λ z. omega arith) (omega arith) (omega arith)
 
-unsent-requires-3 : tie.Need-unsent-requires-3
+unsent-requires-3 : tie.Need-unsent-requires-then-count-gt-MOST
 unsent-requires-3 c κs = search rules
 
-returns-3 : tie.Need-returns-3
+returns-3 : tie.Need-returns-then-count-gt-MOST
 returns-3 c =
-    let y = c.before.before in
-    let a = (tested y.before).args in
-    unsent_run _ _ _ 24 most_messages c.unsent3.ensures
-    (too_many a.head.now a.records.now a.sends.now a.draws.now a.extras.now (fits y.before.before.before.before.before) (well y) c.before.if3.true)
-    (λ z. omega arith) (omega arith) (omega arith)
-
-mul-if4 : tie.Need-overflow-mul-if4
-mul-if4 c = search rules
-
-unsent-requires-4 : tie.Need-unsent-requires-4
-unsent-requires-4 c κs = search rules
-
-returns-4 : tie.Need-returns-4
-returns-4 c =
     let y = c.before.before.before in
     let a = (tested y.before).args in
-    let few : length a.sends.now / message_words ≤ most_messages = c.before.before.if3.false in
-    unsent_run _ _ _ 24 (length a.sends.now / message_words) c.unsent4.ensures
-    (broken a.head.now a.records.now a.sends.now a.draws.now a.extras.now (fits y.before.before.before.before.before) (well y) few (λ e. c.before.if4.true (omega (arith, e))))
+    unsent_run _ _ _ 24 most_messages c.unsent-then-count-gt-MOST.ensures
+    (too_many a.head.now a.records.now a.sends.now a.draws.now a.extras.now (fits y.before.before.before.before) (well y) c.if-count-gt-MOST.true)
+    (λ z. omega arith) (omega arith) (omega arith)
+
+mul-if4 : tie.Need-overflow_mul-count
+mul-if4 c = search rules
+
+unsent-requires-4 : tie.Need-unsent-requires-then-count-sends
+unsent-requires-4 c κs = search rules
+
+returns-4 : tie.Need-returns-then-count-sends
+returns-4 c =
+    let y = c.before.before.before.before in
+    let a = (tested y.before).args in
+    let few : length a.sends.now / message_words ≤ most_messages = c.if-count-gt-MOST.false in
+    unsent_run _ _ _ 24 (length a.sends.now / message_words) c.unsent-then-count-sends.ensures
+    (broken a.head.now a.records.now a.sends.now a.draws.now a.extras.now (fits y.before.before.before.before) (well y) few (λ e. c.if-count-sends.true (omega (arith, e))))
     (λ z. omega arith) (omega arith) few
 
-send-all-requires : tie.Need-send-all-requires
+send-all-requires : tie.Need-send_all-run-requires
 send-all-requires c κs =
     let e = c.before in
     let y = e.before.before in
-    (y.before.before.before.whole.ensures, sym y.before.formed.ensures ∙ not-false _ y.if2.false, omega (arith, e.if4.false))
+    (y.whole.ensures, sym y.formed.ensures ∙ not-false _ y.if-not-formed.false, omega (arith, e.if-count-sends.false))
 
-take-back-requires : tie.Need-take-back-requires
-take-back-requires c κs = c.before.before.before.send-all.ensures.1.0
+take-back-requires : tie.Need-take_back-requires
+take-back-requires c κs = c.send_all-run.ensures.1.0
 
-returns-5 : tie.Need-returns-5
+returns-5 : tie.Need-returns-then-run-ne0
 returns-5 c =
-    let x = c.before.before.before.before in
-    let no = c.before.before.if5.true in
+    let x = c.before.before.before.before.before in
+    let no = c.if-run-ne0.true in
     let t = stopping x no in (
       ran_stopped _ _ no ∙ (sym (ran_stopped _ _ no) ∙ ran x),
       (
@@ -171,39 +168,21 @@ returns-5 c =
       ),
     )
 
-returns-6 : tie.Need-returns-6
+returns-6 : tie.Need-returns-else-run-ne0
 returns-6 c =
     let x = c.before.before in
-    let yes = c.if5.false in
-    let w = x.send-all.ensures.1.0 in (
+    let yes = c.if-run-ne0.false in
+    let w = x.send_all-run.ensures.1.0 in (
       ran x,
       (
         (λ n. absurd (n yes)),
         λ _. (
           w.0,
           w.1,
-          ap (λ (h : Head). packed (keep (up_to h.seq) (recs x.send-all.new.0 0 x.send-all.result.head.pending))) (sym (head_is (else2 x).before)) ∙ came x _ refl,
+          ap (λ (h : Head). packed (keep (up_to h.seq) (recs x.send_all-run.new.0 0 x.send_all-run.result.head.pending))) (sym (head_is (else2 x).before)) ∙ came x _ refl,
         ),
       ),
     )
 
-pub run-sends-spec : {M : Type 1} → statement M
-run-sends-spec =
-    tie.close
-    (tie.spec
-    load-requires
-    unsent-requires
-    returns
-    whole-requires
-    formed-requires
-    unsent-requires-2
-    returns-2
-    unsent-requires-3
-    returns-3
-    mul-if4
-    unsent-requires-4
-    returns-4
-    send-all-requires
-    take-back-requires
-    returns-5
-    returns-6)
+pub run_sends_spec : {M : Type 1} → statement M
+run_sends_spec = tie.close (tie.spec load-requires unsent-requires returns whole-requires formed-requires unsent-requires-2 returns-2 unsent-requires-3 returns-3 mul-if4 unsent-requires-4 returns-4 send-all-requires take-back-requires returns-5 returns-6)

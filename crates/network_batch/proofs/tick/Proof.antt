@@ -1,4 +1,5 @@
--- `network_batch::tick` meets its contract: each way out in turn. Assumes nothing.
+use Rattle.network_batch.proofs.tick.Statement.{statement}
+use Rattle.network_batch.proofs.tick.Tie as tie
 use Prim.Native.Nat.{ℕ, ◌/◌, ◌≤◌}
 use mathlib.Core.Path.{◌≡◌, sym, ap, ◌∙◌}
 use mathlib.Core.List.{List}
@@ -24,145 +25,124 @@ use Rattle.network_batch.specs.Ticks.{message_words, most_messages, number_at, a
 use Rattle.network_batch.proofs.Using.{number_under}
 use Rattle.network_batch.proofs.Sending.{ran_stopped, ran_all}
 use Rattle.network_batch.proofs.Ticking.{all_passed, send_refused, take_refused, all_done}
-use Rattle.network_batch.proofs.tick.Statement.{statement}
-use Rattle.network_batch.proofs.tick.Tie as tie
 
-abbrev start : tie.After-run-sends → tie.Start
-start x = x.before.before.before.before.before.before.before
+-- `network_batch::tick` meets its contract: each way out in turn. Assumes nothing.
+abbrev start : tie.After-run_sends-run → tie.Start
+start x = x.before.before.before.before.before.before
 
 -- ---- all messages were sent
-
-abbrev sent : tie.Else1 → tie.After-run-sends
+abbrev sent : tie.Else-run-ne0 → tie.After-run_sends-run
 sent c = c.before.before
 
-all_sent : (c : tie.Else1) → let x = sent c in let a = (start x).args in let t = x.run-sends.result in
-    batch_ran a.head.now a.records.now a.sends.now a.draws.now a.extras.now ≡ all t.head x.run-sends.last.1.0 t.draws t.extras
-all_sent c = sym (sent c).run-sends.ensures.0 ∙ ran_all _ _ c.if1.false
+all_sent : (c : tie.Else-run-ne0) → let x = sent c in let a = (start x).args in let t = x.run_sends-run.result in
+    batch_ran a.head.now a.records.now a.sends.now a.draws.now a.extras.now ≡ all t.head x.run_sends-run.new.1.0 t.draws t.extras
+all_sent c = sym (sent c).run_sends-run.ensures.0 ∙ ran_all _ _ c.if-run-ne0.false
 
-within : (c : tie.Else1) → length (start (sent c)).args.sends.now / message_words ≤ most_messages
+within : (c : tie.Else-run-ne0) → length (start (sent c)).args.sends.now / message_words ≤ most_messages
 within c =
     let a = (start (sent c)).args in
     (all_passed a.head.now a.records.now a.sends.now a.draws.now a.extras.now _ _ _ _ (all_sent c)).few
 
 -- ---- what was due was taken
+abbrev then : tie.After-take_on-taken → tie.Else-run-ne0
+then y = y.before.before.before.before
 
-abbrev then : tie.After-take-on → tie.Else1
-then y = y.before.before.before
+abbrev left : tie.After-take_on-taken → Head
+left y = (sent (then y)).run_sends-run.result.head
 
-abbrev left : tie.After-take-on → Head
-left y = (sent (then y)).run-sends.result.head
+abbrev words : tie.After-take_on-taken → List ℕ
+words y = (sent (then y)).run_sends-run.new.1.0
 
-abbrev words : tie.After-take-on → List ℕ
-words y = (sent (then y)).run-sends.new.1.0
-
-abbrev call : tie.After-take-on → Change
+abbrev call : tie.After-take_on-taken → Change
 call y = collect (start (sent (then y))).args.now (length (start (sent (then y))).args.out.now)
 
-accepted : (c : tie.After-answer2) → let y = c.before.before.before.before in answer_in (call y) (left y) (words y) ≡ done
-accepted c = taken_done _ _ _ c.before.before.before.before.take_on.ensures.1.1.0 _ c.answer2.given.1
+accepted : (c : tie.In-Records-2) → let y = c.before.before.before.before in answer_in (call y) (left y) (words y) ≡ done
+accepted c = taken_done _ _ _ c.take_on-taken.ensures.1.1.0 _ c.answer-in-Records-1.given.1
 
 -- ---- or was not
-
-module _ (y : tie.After-take-on) (r : Refusal) (e : y.take_on.result.answer ≡ Uncounted r) where
+module _ (y : tie.After-take_on-taken) (r : Refusal) (e : y.take_on.result.answer ≡ Uncounted r) where
   refusing : answer_in (call y) (left y) (words y) ≡ refused (refusal_number r)
-  refusing = taken_refused _ _ _ y.take_on.ensures.1.1.0 r e
+  refusing = taken_refused _ _ _ y.take_on-taken.ensures.1.1.0 r e
 
-  untouched : y.take_on.last.0 ≡ words y
-  untouched = y.take_on.ensures.1.0 ∙ sym (records_stay (left y) (words y) (call y) _ refusing)
+  untouched : y.take_on-taken.new.0 ≡ words y
+  untouched = y.take_on-taken.ensures.1.0 ∙ sym (records_stay (left y) (words y) (call y) _ refusing)
 
   -- without the newer records there is what came
   came : let a = (start (sent (then y))).args in
-      (z : List ℕ) → z ≡ packed (keep (up_to (head_in a.head.now).seq) (recs y.take_on.last.0 0 (left y).pending)) → z ≡ a.records.now
+      (z : List ℕ) → z ≡ packed (keep (up_to (head_in a.head.now).seq) (recs y.take_on-taken.new.0 0 (left y).pending)) → z ≡ a.records.now
   came z p =
       p
       ∙ (ap (λ (u : List ℕ). packed (keep (up_to (head_in (start (sent (then y))).args.head.now).seq) (recs u 0 (left y).pending))) untouched
-      ∙ ((sent (then y)).run-sends.ensures.1.1 (then y).if1.left).2)
+      ∙ ((sent (then y)).run_sends-run.ensures.1.1 (then y).if-run-ne0.left).2)
 
-run-sends-requires : tie.Need-run-sends-requires
+run-sends-requires : tie.Need-run_sends-run-requires
 run-sends-requires c κs = search rules
 
 at-requires : tie.Need-at-requires
-at-requires c κs = let k = c.before.before.run-sends.ensures.1.0 c.if1.true in (k.1, k.2)
+at-requires c κs = let k = c.run_sends-run.ensures.1.0 c.if-run-ne0.true in (k.1, k.2)
 
-returns : tie.Need-returns
+returns : tie.Need-returns-then-run-ne0
 returns c =
     let x = c.before.before.before in
-    let no = c.before.if1.true in
+    let no = c.if-run-ne0.true in
     let a = (start x).args in
-    send_refused a.head.now a.records.now a.sends.now a.draws.now a.extras.now a.now a.out.now a.told.now _ _ (sym x.run-sends.ensures.0 ∙ ran_stopped _ _ no) _ c.at.ensures _
-    (x.run-sends.ensures.1.0 no).0
+    send_refused a.head.now a.records.now a.sends.now a.draws.now a.extras.now a.now a.out.now a.told.now _ _ (sym x.run_sends-run.ensures.0 ∙ ran_stopped _ _ no) _ c.at.ensures _
+    (x.run_sends-run.ensures.1.0 no).0
 
-take-on-requires : tie.Need-take-on-requires
+take-on-requires : tie.Need-take_on-taken-requires
 take-on-requires c κs =
-    let d = c.before.before in
-    let w = (sent d).run-sends.ensures.1.1 d.if1.false in (w.0, w.1)
+    let d = c.before.before.before in
+    let w = (sent d).run_sends-run.ensures.1.1 d.if-run-ne0.false in (w.0, w.1)
 
-enum-known-answer : tie.Need-enum-known-answer
+enum-known-answer : tie.Need-enum_known-answer
 enum-known-answer c = search rules
 
-element-copy-out-take-back : tie.Need-element-copy-out-take-back
+element-copy-out-take-back : tie.Need-bounds-head-6
 element-copy-out-take-back c = search rules
 
-take-back-requires : tie.Need-take-back-requires
+take-back-requires : tie.Need-take_back-requires
 take-back-requires c κs =
-    let y = c.before.before.before.before.before.before.before in
-    let g = c.before.before.before.answer.given in
-    let w = (sent (then y)).run-sends.ensures.1.1 (then y).if1.false in
-    rw (untouched y g.0.0 g.1) (w.0, w.1)
+    let y = c.before.before.before.before.before.before.before.before.before in
+    let g = c.answer-1.given in
+    let w = (sent (then y)).run_sends-run.ensures.1.1 (then y).if-run-ne0.false in
+    rw (untouched y c.answer-1.given.0.0 c.answer-1.given.1) (w.0, w.1)
 
-number-of-requires : tie.Need-number-of-requires
+number-of-requires : tie.Need-number_of-requires
 number-of-requires c κs = search rules
 
-at-requires-2 : tie.Need-at-requires-2
+at-requires-2 : tie.Need-at-requires-in-Refused
 at-requires-2 c κs =
-    (omega (arith, c.number_of_lem.ensures, number_under c.before.before.before.before.before.answer.given.0.0), within (then c.before.before.before.before.before.before.before.before.before))
+    (omega (arith, c.number_of.ensures, number_under c.answer-1.given.0.0), within (then c.before.before.before.before.before.before.before.before.before.before.before))
 
-enum-known-answer-2 : tie.Need-enum-known-answer-2
+enum-known-answer-2 : tie.Need-enum_known-answer-in-Records-1
 enum-known-answer-2 c = search rules
 
 store-requires : tie.Need-store-requires
 store-requires c κs =
     let y = c.before.before.before.before.before.before in
-    ap (λ (h : Head). good_options (plain_options h.options)) y.take_on.ensures.0 ∙ stays_good _ _ _ (accepted c.before.before)
+    ap (λ (h : Head). good_options (plain_options h.options)) y.take_on-taken.ensures.0 ∙ stays_good _ _ _ (accepted c.before.before.before)
 
-same_length : tie.Need-same-length
+same_length : tie.Need-shape_of-out-in-Refused
 same_length c = search rules
 
-returns-2 : tie.Need-returns-2
+returns-2 : tie.Need-returns-in-Refused
 returns-2 c =
-    let y = c.before.before.before.before.before.before.before.before.before.before in
+    let y = c.before.before.before.before.before.before.before.before.before.before.before.before in
     let a = (start (sent (then y))).args in
-    let g = c.before.before.before.before.before.before.answer.given in
-    take_refused a.head.now a.records.now a.sends.now a.draws.now a.extras.now a.now a.out.now a.told.now (left y) _ _ _ (all_sent (then y)) _ (refusing y g.0.0 g.1) _
-    (c.at2.ensures ∙ ap (λ (k : ℕ). number_at k (length a.sends.now / message_words)) c.before.number_of_lem.ensures) _ _
-    (came y g.0.0 g.1 _ c.before.before.take_back.ensures) y.take_on.ensures.1.1.1
+    let g = c.answer-1.given in
+    take_refused a.head.now a.records.now a.sends.now a.draws.now a.extras.now a.now a.out.now a.told.now (left y) _ _ _ (all_sent (then y)) _ (refusing y c.answer-1.given.0.0 c.answer-1.given.1) _
+    (c.at-in-Refused.ensures ∙ ap (λ (k : ℕ). number_at k (length a.sends.now / message_words)) c.number_of.ensures) _ _
+    (came y c.answer-1.given.0.0 c.answer-1.given.1 _ c.take_back.ensures) y.take_on-taken.ensures.1.1.1
 
-same-length-2 : tie.Need-same-length-2
+same-length-2 : tie.Need-shape_of-out-in-Records
 same-length-2 c = search rules
 
-returns-3 : tie.Need-returns-3
+returns-3 : tie.Need-returns-in-Records
 returns-3 c =
-    let y = c.before.before.before.before.before.before.before.before in
+    let y = c.before.before.before.before.before.before.before.before.before in
     let a = (start (sent (then y))).args in
-    all_done a.head.now a.records.now a.sends.now a.draws.now a.extras.now a.now a.out.now a.told.now (left y) _ _ _ (all_sent (then y)) (accepted c.before.before.before.before) _ y.take_on.ensures.0 _ _ _ c.before.store.ensures y.take_on.ensures.1.0 y.take_on.ensures.1.1.1 _
-    (taken_told _ _ _ y.take_on.ensures.1.1.0 _ c.before.before.before.before.answer2.given.1)
+    all_done a.head.now a.records.now a.sends.now a.draws.now a.extras.now a.now a.out.now a.told.now (left y) _ _ _ (all_sent (then y)) (accepted c.before.before.before.before.before) _ y.take_on-taken.ensures.0 _ _ _ c.store.ensures y.take_on-taken.ensures.1.0 y.take_on-taken.ensures.1.1.1 _
+    (taken_told _ _ _ y.take_on-taken.ensures.1.1.0 _ c.answer-in-Records-1.given.1)
 
-pub tick-spec : {M : Type 1} → statement M
-tick-spec =
-    tie.close
-    (tie.spec
-    run-sends-requires
-    at-requires
-    returns
-    take-on-requires
-    enum-known-answer
-    element-copy-out-take-back
-    take-back-requires
-    number-of-requires
-    at-requires-2
-    enum-known-answer-2
-    store-requires
-    same_length
-    returns-2
-    same-length-2
-    returns-3)
+pub tick_spec : {M : Type 1} → statement M
+tick_spec = tie.close (tie.spec run-sends-requires at-requires returns take-on-requires enum-known-answer element-copy-out-take-back take-back-requires number-of-requires at-requires-2 enum-known-answer-2 store-requires same_length returns-2 same-length-2 returns-3)

@@ -1,4 +1,5 @@
--- `network_words::in_flight` meets its contract: the list of the words' own head and records. Assumes nothing.
+use Rattle.network_words.proofs.in_flight.Statement.{statement}
+use Rattle.network_words.proofs.in_flight.Tie as tie
 use mathlib.Core.Path.{◌≡◌, ap, ◌∙◌}
 use mathlib.Core.Bool.{true, false}
 use mathlib.Core.List.{[], ◌∷◌}
@@ -12,9 +13,8 @@ use Rattle.network_layout.specs.Layout.{head_fits, head_in, if_head}
 use Rattle.network_layout.proofs.Heads.{told_fits, head_read}
 use Rattle.network_words.proofs.Told.{Kept, Done, unread, read_kept, read_finished, taken_refused, taken_done, taken_told}
 use borrow.Author.Rules.{rules}
-use Rattle.network_words.proofs.in_flight.Statement.{statement}
-use Rattle.network_words.proofs.in_flight.Tie as tie
 
+-- `network_words::in_flight` meets its contract: the list of the words' own head and records. Assumes nothing.
 -- the answer on the words' own head and records, and with the test of the head
 abbrev inside : tie.Start → Answer
 inside c = list_answer (head_in c.args.head.now) c.args.records.now (length c.args.out.now)
@@ -22,63 +22,63 @@ inside c = list_answer (head_in c.args.head.now) c.args.records.now (length c.ar
 abbrev answer : tie.Start → Answer
 answer c = if_head c.args.head.now (inside c)
 
-fits : (c : tie.Else1) → head_fits c.before.before.before.before.args.head.now ≡ true
-fits c = told_fits _ _ c.before.before.load.ensures true (not-false _ c.if1.false)
+fits : (c : tie.Else-not-loaded) → head_fits c.args.head.now ≡ true
+fits c = told_fits _ _ c.load-loaded.ensures true (not-false _ c.if-not-loaded.false)
 
-abbrev else-of : tie.After-list-in → tie.Else1
-else-of c = c.before.before.before
+abbrev else-of : tie.After-list_in-listed → tie.Else-not-loaded
+else-of c = c.before.before.before.before
 
-abbrev start : tie.After-list-in → tie.Start
-start c = c.before.before.before.before.before.before.before
+abbrev start : tie.After-list_in-listed → tie.Start
+start c = c.before.before.before.before.before.before.before.before
 
-made : (c : tie.After-list-in) → let a = (start c).args in
-    (counted_of c.list-in.result ≡ list_tells (length a.out.now) (head_in a.head.now) a.records.now)
-    × (c.list-in.new.1.1.0 ≡ list_gives a.out.now (head_in a.head.now) a.records.now)
-made c = rw (head_read _ _ (else-of c).before.before.load.ensures (fits (else-of c))) at c.list-in.ensures
+made : (c : tie.After-list_in-listed) → let a = (start c).args in
+    (counted_of c.list_in-listed.result ≡ list_tells (length a.out.now) (head_in a.head.now) a.records.now)
+    × (c.list_in-listed.new.1.1.0 ≡ list_gives a.out.now (head_in a.head.now) a.records.now)
+made c = rw (head_read _ _ (else-of c).load-loaded.ensures (fits (else-of c))) at c.list_in-listed.ensures
 
-accepted : (c : tie.After-listed2) → inside (start c.before.before.before.before) ≡ done
-accepted c = taken_done _ _ _ (made c.before.before.before.before).0 _ c.listed2.given.1
+accepted : (c : tie.In-Records-2) → inside (start c.before.before.before.before) ≡ done
+accepted c = taken_done _ _ _ (made c.before.before.before.before).0 _ c.listed-in-Records-1.given.1
 
-load-requires : tie.Need-load-requires
+load-requires : tie.Need-load-loaded-requires
 load-requires c κs = search rules
 
-returns : tie.Need-returns
+returns : tie.Need-returns-then-not-loaded
 returns c =
     let b = c.before.before.before.before in
-    let k : Kept (answer b) 23 = unread _ (inside b) (told_fits _ _ c.before.before.load.ensures false (not-true _ c.if1.true)) in
+    let k : Kept (answer b) 23 = unread _ (inside b) (told_fits _ _ c.load-loaded.ensures false (not-true _ c.if-not-loaded.true)) in
     (k.number _ _, (k.out _ _, k.told _ _))
 
 whole-requires : tie.Need-whole-requires
 whole-requires c κs = search rules
 
-list-in-requires : tie.Need-list-in-requires
+list-in-requires : tie.Need-list_in-listed-requires
 list-in-requires c κs = search rules
 
-enum-known-listed : tie.Need-enum-known-listed
+enum-known-listed : tie.Need-enum_known-listed
 enum-known-listed c = search rules
 
-number-of-requires : tie.Need-number-of-requires
+number-of-requires : tie.Need-number_of-requires
 number-of-requires c κs = search rules
 
-enum-known-listed-2 : tie.Need-enum-known-listed-2
+enum-known-listed-2 : tie.Need-enum_known-listed-in-Records-1
 enum-known-listed-2 c = search rules
 
-same_length : tie.Need-same-length
+same_length : tie.Need-shape_of-out-in-Refused
 same_length c = search rules
 
-returns-2 : tie.Need-returns-2
+returns-2 : tie.Need-returns-in-Refused
 unfolding if_done
 returns-2 c =
     let x = c.before.before.before.before.before.before in
     let b = start x in
-    let e = taken_refused _ _ _ (made x).0 _ c.before.before.listed.given.1 in
+    let e = taken_refused _ _ _ (made x).0 _ c.listed-1.given.1 in
     let k : Kept (answer b) _ = read_kept _ (inside b) (fits (else-of x)) _ e in
-    (c.number_of_lem.ensures ∙ k.number _ _, ((rw e at (made x).1) ∙ k.out _ _, k.told _ _))
+    (c.number_of.ensures ∙ k.number _ _, ((rw e at (made x).1) ∙ k.out _ _, k.told _ _))
 
-same-length-2 : tie.Need-same-length-2
+same-length-2 : tie.Need-shape_of-out-in-Records
 same-length-2 c = search rules
 
-returns-3 : tie.Need-returns-3
+returns-3 : tie.Need-returns-in-Records
 unfolding if_done
 returns-3 c =
     let y = c.before.before in
@@ -88,22 +88,9 @@ returns-3 c =
       d.number _ _,
       (
         (rw (accepted y) at (made x).1) ∙ d.out _ _,
-        ap (λ (k : ℕ). k ∷ []) (taken_told _ _ _ (made x).0 _ y.listed2.given.1) ∙ d.told _ _,
+        ap (λ (k : ℕ). k ∷ []) (taken_told _ _ _ (made x).0 _ y.listed-in-Records-1.given.1) ∙ d.told _ _,
       ),
     )
 
-pub in-flight-spec : {M : Type 1} → statement M
-in-flight-spec =
-    tie.close
-    (tie.spec
-    load-requires
-    returns
-    whole-requires
-    list-in-requires
-    enum-known-listed
-    number-of-requires
-    enum-known-listed-2
-    same_length
-    returns-2
-    same-length-2
-    returns-3)
+pub in_flight_spec : {M : Type 1} → statement M
+in_flight_spec = tie.close (tie.spec load-requires returns whole-requires list-in-requires enum-known-listed number-of-requires enum-known-listed-2 same_length returns-2 same-length-2 returns-3)

@@ -1,4 +1,5 @@
--- `network_words::take_due` meets its contract: the call in place on the words' own head and records. Assumes nothing.
+use Rattle.network_words.proofs.take_due.Statement.{statement}
+use Rattle.network_words.proofs.take_due.Tie as tie
 use mathlib.Core.Path.{◌≡◌, sym, ap, ◌∙◌}
 use mathlib.Core.Bool.{true, false}
 use mathlib.Core.List.{[], ◌∷◌}
@@ -17,9 +18,8 @@ use Rattle.network_layout.specs.Layout.{head_fits, head_in, head_words, if_head}
 use Rattle.network_layout.proofs.Heads.{told_fits, head_read}
 use Rattle.network_words.proofs.Told.{Kept, Done, unread, read_kept, read_finished, taken_refused, taken_done, taken_told}
 use borrow.Author.Rules.{rules}
-use Rattle.network_words.proofs.take_due.Statement.{statement}
-use Rattle.network_words.proofs.take_due.Tie as tie
 
+-- `network_words::take_due` meets its contract: the call in place on the words' own head and records. Assumes nothing.
 -- the call, its answer on the words' own head and records, and with the test of the head
 abbrev call : tie.Start → Change
 call c = collect c.args.tick (length c.args.out.now)
@@ -30,106 +30,91 @@ inside c = answer_in (call c) (head_in c.args.head.now) c.args.records.now
 abbrev answer : tie.Start → Answer
 answer c = if_head c.args.head.now (inside c)
 
-fits : (c : tie.Else1) → head_fits c.before.before.before.before.before.args.head.now ≡ true
-fits c = told_fits _ _ c.before.before.load.ensures true (not-false _ c.if1.false)
+fits : (c : tie.Else-not-loaded) → head_fits c.args.head.now ≡ true
+fits c = told_fits _ _ c.load-loaded.ensures true (not-false _ c.if-not-loaded.false)
 
 -- ---- the call in place was made on the network of the words
-
-abbrev else-of : tie.After-take-in → tie.Else1
+abbrev else-of : tie.After-take_in-taken → tie.Else-not-loaded
 else-of c = c.before.before.before.before.before
 
-abbrev start : tie.After-take-in → tie.Start
-start c = c.before.before.before.before.before.before.before.before.before.before
+abbrev start : tie.After-take_in-taken → tie.Start
+start c = c.before.before.before.before.before.before.before.before.before
 
-made : (c : tie.After-take-in) → let a = (start c).args in
-    (c.take_in.result.head ≡ head_after (call (start c)) (head_in a.head.now) a.records.now)
-    × ((c.take_in.new.0 ≡ records_after (call (start c)) (head_in a.head.now) a.records.now)
-    × ((counted_of c.take_in.result.answer ≡ take_tells a.tick (length a.out.now) (head_in a.head.now) a.records.now)
-    × (c.take_in.new.1.1.1.0 ≡ take_gives a.tick a.out.now (head_in a.head.now) a.records.now)))
-made c = rw (head_read _ _ (else-of c).before.before.load.ensures (fits (else-of c))) at c.take_in.ensures
+made : (c : tie.After-take_in-taken) → let a = (start c).args in
+    (c.take_in-taken.result.head ≡ head_after (call (start c)) (head_in a.head.now) a.records.now)
+    × ((c.take_in-taken.new.0 ≡ records_after (call (start c)) (head_in a.head.now) a.records.now)
+    × ((counted_of c.take_in-taken.result.answer ≡ take_tells a.tick (length a.out.now) (head_in a.head.now) a.records.now)
+    × (c.take_in-taken.new.1.1.1.0 ≡ take_gives a.tick a.out.now (head_in a.head.now) a.records.now)))
+made c = rw (head_read _ _ (else-of c).load-loaded.ensures (fits (else-of c))) at c.take_in-taken.ensures
 
-accepted : (c : tie.After-answer2) → inside (start c.before.before.before.before) ≡ done
-accepted c = taken_done _ _ _ (made c.before.before.before.before).1.1.0 _ c.answer2.given.1
+accepted : (c : tie.In-Records-2) → inside (start c.before.before.before.before) ≡ done
+accepted c = taken_done _ _ _ (made c.before.before.before.before).1.1.0 _ c.answer-in-Records-1.given.1
 
-load-requires : tie.Need-load-requires
+load-requires : tie.Need-load-loaded-requires
 load-requires c κs = search rules
 
-returns : tie.Need-returns
+returns : tie.Need-returns-then-not-loaded
 returns c =
-    let b = c.before.before.before.before.before in
-    let k : Kept (answer b) 23 = unread _ (inside b) (told_fits _ _ c.before.before.load.ensures false (not-true _ c.if1.true)) in
+    let b = c.before.before.before.before in
+    let k : Kept (answer b) 23 = unread _ (inside b) (told_fits _ _ c.load-loaded.ensures false (not-true _ c.if-not-loaded.true)) in
     (k.number _ _, (k.head _ _, (k.records _ _, (k.out _ _, k.told _ _))))
 
 whole-requires : tie.Need-whole-requires
 whole-requires c κs = search rules
 
-take-in-requires : tie.Need-take-in-requires
+take-in-requires : tie.Need-take_in-taken-requires
 take-in-requires c κs = search rules
 
-enum-known-answer : tie.Need-enum-known-answer
+enum-known-answer : tie.Need-enum_known-answer
 enum-known-answer c = search rules
 
-number-of-requires : tie.Need-number-of-requires
+number-of-requires : tie.Need-number_of-requires
 number-of-requires c κs = search rules
 
-enum-known-answer-2 : tie.Need-enum-known-answer-2
+enum-known-answer-2 : tie.Need-enum_known-answer-in-Records-1
 enum-known-answer-2 c = search rules
 
 store-requires : tie.Need-store-requires
 store-requires c κs =
-    let x = c.before.before.before.before.before.before in
-    ap (λ (h : Head). good_options (plain_options h.options)) (made x).0 ∙ stays_good _ _ _ (accepted c.before.before)
+    let x = c.before.before.before.before.before.before.before in
+    ap (λ (h : Head). good_options (plain_options h.options)) (made x).0 ∙ stays_good _ _ _ (accepted c.before.before.before)
 
-same_length : tie.Need-same-length
+same_length : tie.Need-shape_of-out-in-Refused
 same_length c = search rules
 
-returns-2 : tie.Need-returns-2
+returns-2 : tie.Need-returns-in-Refused
 unfolding if_done
 returns-2 c =
     let x = c.before.before.before.before.before.before in
     let b = start x in
-    let e = taken_refused _ _ _ (made x).1.1.0 _ c.before.before.answer.given.1 in
+    let e = taken_refused _ _ _ (made x).1.1.0 _ c.answer-1.given.1 in
     let k : Kept (answer b) _ = read_kept _ (inside b) (fits (else-of x)) _ e in (
-      c.number_of_lem.ensures ∙ k.number _ _,
+      c.number_of.ensures ∙ k.number _ _,
       (k.head _ _, ((made x).1.0 ∙ (sym (records_stay _ _ (call b) _ e) ∙ k.records _ _), ((rw e at (made x).1.1.1) ∙ k.out _ _, k.told _ _))),
     )
 
-same-length-2 : tie.Need-same-length-2
+same-length-2 : tie.Need-shape_of-out-in-Records
 same-length-2 c = search rules
 
-returns-3 : tie.Need-returns-3
+returns-3 : tie.Need-returns-in-Records
 unfolding if_done
 returns-3 c =
-    let y = c.before.before.before.before in
+    let y = c.before.before.before.before.before in
     let x = y.before.before.before.before in
     let b = start x in
     let d : Done (answer b) = read_finished _ (inside b) (fits (else-of x)) (accepted y) in (
       d.number _ _,
       (
-        c.before.store.ensures ∙ (ap (λ (h : Head). head_words h) (made x).0 ∙ d.head _ _),
+        c.store.ensures ∙ (ap (λ (h : Head). head_words h) (made x).0 ∙ d.head _ _),
         (
           (made x).1.0 ∙ d.records _ _,
           (
             (rw (accepted y) at (made x).1.1.1) ∙ d.out _ _,
-            ap (λ (k : ℕ). k ∷ []) (taken_told _ _ _ (made x).1.1.0 _ y.answer2.given.1) ∙ d.told _ _,
+            ap (λ (k : ℕ). k ∷ []) (taken_told _ _ _ (made x).1.1.0 _ y.answer-in-Records-1.given.1) ∙ d.told _ _,
           ),
         ),
       ),
     )
 
-pub take-due-spec : {M : Type 1} → statement M
-take-due-spec =
-    tie.close
-    (tie.spec
-    load-requires
-    returns
-    whole-requires
-    take-in-requires
-    enum-known-answer
-    number-of-requires
-    enum-known-answer-2
-    store-requires
-    same_length
-    returns-2
-    same-length-2
-    returns-3)
+pub take_due_spec : {M : Type 1} → statement M
+take_due_spec = tie.close (tie.spec load-requires returns whole-requires take-in-requires enum-known-answer number-of-requires enum-known-answer-2 store-requires same_length returns-2 same-length-2 returns-3)

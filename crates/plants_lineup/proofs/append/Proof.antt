@@ -1,4 +1,5 @@
--- `plants_lineup::append` meets its contract: those found so far stand behind the front, and what was there behind them. Assumes nothing.
+use Rattle.plants_lineup.proofs.append.Statement.{statement}
+use Rattle.plants_lineup.proofs.append.Tie as tie
 use Prim.Native.Nat.{◌+◌, ◌-◌, ◌≤◌, ◌<◌}
 use mathlib.Core.Path.{◌≡◌, refl, sym, ap, ◌∙◌}
 use native.Mathlib.Omega.{arith}
@@ -11,30 +12,29 @@ use lib.Seq.{length-take-le}
 use Rattle.plants_lineup.specs.Core.{those, has_flag}
 use Rattle.plants_lineup.proofs.Tallies.{all_below}
 use Rattle.plants_lineup.proofs.Walks.{Written, written_more, written_same, has_room, one_found, all_found}
-use Rattle.plants_lineup.proofs.append.Statement.{statement}
-use Rattle.plants_lineup.proofs.append.Tie as tie
 
-abbrev invariant-loop : tie.invariant-loop
+-- `plants_lineup::append` meets its contract: those found so far stand behind the front, and what was there behind them. Assumes nothing.
+abbrev invariant-loop : tie.invariant-loop-i
 invariant-loop ids flags flag line₀ at count₀ i₀ line count i = (i ≤ length ids) × (length line ≡ length line₀) × Written (take at line₀ ++ those (has_flag flags flag) (take i ids)) line₀ count line
 
-abbrev decreases-loop : tie.decreases-loop
+abbrev decreases-loop : tie.decreases-loop-i
 decreases-loop ids flags flag line₀ at count₀ i₀ line count i = length ids - i
 
 -- each id has its flag
-known : (c : tie.In-loop invariant-loop decreases-loop) → get_or c.before.before.args.ids.now c.before.loop.i 0 < length c.before.before.args.flags.now
+known : (c : tie.In-loop-i invariant-loop decreases-loop) → get_or c.args.ids.now c.loop-i.i 0 < length c.args.flags.now
 known c =
-    let a = c.before.before.args in
-    all_below (length a.flags.now) a.ids.now c.before.before.requires.0 c.before.loop.i (omega arith)
+    let a = c.args in
+    all_below (length a.flags.now) a.ids.now c.requires.0 c.loop-i.i (omega arith)
 
 -- there is room for one that is found
-room : (c : tie.Then1 invariant-loop decreases-loop) → c.before.before.before.before.loop.count < length c.before.before.before.before.before.args.line.now
+room : (c : tie.Then-flags-place invariant-loop decreases-loop) → c.loop-i.count < length c.args.line.now
 room c =
     let l = c.before.before.before.before in
-    let a = l.before.args in
-    has_room (has_flag a.flags.now a.flag) a.ids.now a.line.now a.at l.before.requires.1 l.loop.i l.loop.count (omega arith)
-    (eq-eqb _ _ c.if1.true) l.loop.invariant.2.0
+    let a = l.args in
+    has_room (has_flag a.flags.now a.flag) a.ids.now a.line.now a.at l.requires.1 l.loop-i.i l.loop-i.count (omega arith)
+    (eq-eqb _ _ c.if-flags-place.true) l.loop-i.invariant.2.0
 
-loop-holds : tie.Need-loop-init invariant-loop decreases-loop
+loop-holds : tie.Need-loop-i-init invariant-loop decreases-loop
 unfolding those
 loop-holds c =
     let a = c.args in
@@ -47,83 +47,66 @@ loop-holds c =
       ),
     )
 
-mul-id : tie.Need-overflow-mul-id invariant-loop decreases-loop
+mul-id : tie.Need-offset_bounds-ids-i invariant-loop decreases-loop
 mul-id c = omega arith
 
-shared-slice-read-id : tie.Need-shared-slice-read-id invariant-loop decreases-loop
+shared-slice-read-id : tie.Need-bounds-ids-i invariant-loop decreases-loop
 shared-slice-read-id c = omega arith
 
-mul-if1 : tie.Need-overflow-mul-if1 invariant-loop decreases-loop
+mul-if1 : tie.Need-offset_bounds-flags-place invariant-loop decreases-loop
 mul-if1 c = omega (arith, known c.before)
 
-shared-slice-read-if1 : tie.Need-shared-slice-read-if1 invariant-loop decreases-loop
+shared-slice-read-if1 : tie.Need-bounds-flags-place invariant-loop decreases-loop
 shared-slice-read-if1 c = known c.before.before
 
-mul-line : tie.Need-overflow-mul-line invariant-loop decreases-loop
+mul-line : tie.Need-offset_bounds-line-count invariant-loop decreases-loop
 mul-line c = omega (arith, room c)
 
-slice-write-line : tie.Need-slice-write-line invariant-loop decreases-loop
+slice-write-line : tie.Need-bounds-line-count invariant-loop decreases-loop
 slice-write-line c = omega (arith, room c)
 
-add-count : tie.Need-overflow-add-count invariant-loop decreases-loop
+add-count : tie.Need-overflow_add-count invariant-loop decreases-loop
 add-count c = omega (arith, room c)
 
-add-i : tie.Need-overflow-add-i invariant-loop decreases-loop
+add-i : tie.Need-overflow_add-i invariant-loop decreases-loop
 add-i c = omega arith
 
-loop-less : tie.Need-loop-smaller invariant-loop decreases-loop
+loop-less : tie.Need-loop-i-smaller invariant-loop decreases-loop
 loop-less c = omega arith
 
-loop-again : tie.Need-loop-preserved invariant-loop decreases-loop
+loop-again : tie.Need-loop-i-preserved invariant-loop decreases-loop
 loop-again c =
     let l = c.before.before.before.before in
-    let a = l.before.args in
+    let a = l.args in
     let line = a.line.now in
     let ids = a.ids.now in
     let test = has_flag a.flags.now a.flag in
-    let i = l.loop.i in
+    let i = l.loop-i.i in
     let front = take a.at line ++ those test (take i ids) in
     let next = take a.at line ++ those test (take (i + 1) ids) in
-    let found = one_found test ids line a.at l.before.requires.1 i in
+    let found = one_found test ids line a.at l.requires.1 i in
     ⊎_elim
     (λ w. rw (w.1, w.2) (
       omega arith,
       simp length-set (omega arith),
-      written_more front next line l.loop.line l.loop.count (get_or ids i 0) (omega (arith, room (record { before = c.before; if1 = w.0 })))
-          (found true (omega arith) (eq-eqb _ _ w.0.taken)) l.loop.invariant.2,
+      written_more front next line l.loop-i.line l.loop-i.count (get_or ids i 0) (omega (arith, room (record { before = c.before; if1 = w.0 })))
+          (found true (omega arith) (eq-eqb _ _ w.0.taken)) l.loop-i.invariant.2,
     ))
     (λ w. rw (w.1, w.2) (
       omega arith,
       omega arith,
-      written_same front next line l.loop.line l.loop.count (found false (omega arith) (ne_eqb _ _ w.0.left)) l.loop.invariant.2,
+      written_same front next line l.loop-i.line l.loop-i.count (found false (omega arith) (ne_eqb _ _ w.0.left)) l.loop-i.invariant.2,
     ))
-    c.if1.branch
+    c.if-flags-place.branch
 
-same_length : tie.Need-same-length invariant-loop decreases-loop
+same_length : tie.Need-shape_of-line invariant-loop decreases-loop
 same_length c = omega arith
 
 returns : tie.Need-returns invariant-loop decreases-loop
 returns c =
     let l = c.before in
-    let a = l.before.args in
-    all_found (has_flag a.flags.now a.flag) a.ids.now a.line.now a.at l.before.requires.1 l.loop.line l.loop.i l.loop.count (omega arith) l.loop.invariant.2
+    let a = l.args in
+    all_found (has_flag a.flags.now a.flag) a.ids.now a.line.now a.at l.requires.1 l.loop-i.line l.loop-i.i l.loop-i.count (omega arith) l.loop-i.invariant.2
 
-pub append-spec : {M : Type 1} → statement M
-append-spec =
-    tie.close
-    (tie.spec
-    invariant-loop
-    decreases-loop
-    loop-holds
-    mul-id
-    shared-slice-read-id
-    mul-if1
-    shared-slice-read-if1
-    mul-line
-    slice-write-line
-    add-count
-    add-i
-    loop-less
-    loop-again
-    same_length
-    returns)
+pub append_spec : {M : Type 1} → statement M
+append_spec = tie.close (tie.spec invariant-loop decreases-loop loop-holds mul-id shared-slice-read-id mul-if1 shared-slice-read-if1 mul-line slice-write-line add-count add-i loop-less loop-again same_length returns)

@@ -1,4 +1,5 @@
--- `plants_liveness::rising` meets its contract: after i turns those of the first i plants that are set stand at the front. Assumes nothing.
+use Rattle.plants_liveness.proofs.rising.Statement.{statement}
+use Rattle.plants_liveness.proofs.rising.Tie as tie
 use Prim.Native.Nat.{◌+◌, ◌-◌, ◌≤◌}
 use mathlib.Core.Path.{◌≡◌, refl, sym, ap, ◌∙◌}
 use native.Mathlib.Omega.{arith}
@@ -11,79 +12,65 @@ use Rattle.plants_liveness.specs.Choice.{is_set}
 use Rattle.plants_lineup.proofs.Ids.{length_ids, those_next}
 use Rattle.plants_lineup.proofs.Walks.{Written, written_more, written_same, drop_zeros}
 use Rattle.plants_lineup.proofs.Tallies.{tally_le}
-use Rattle.plants_liveness.proofs.rising.Statement.{statement}
-use Rattle.plants_liveness.proofs.rising.Tie as tie
 
-abbrev invariant-loop : tie.invariant-loop
+-- `plants_liveness::rising` meets its contract: after i turns those of the first i plants that are set stand at the front. Assumes nothing.
+abbrev invariant-loop : tie.invariant-loop-i
 invariant-loop flags core₀ count₀ i₀ core count i = (i ≤ 15) × Written (those (is_set flags) (ids_from 0 i)) core₀ count core
 
-abbrev decreases-loop : tie.decreases-loop
+abbrev decreases-loop : tie.decreases-loop-i
 decreases-loop flags core₀ count₀ i₀ core count i = 15 - i
 
 -- no more are found than were passed
-few : (c : tie.In-loop invariant-loop decreases-loop) → c.before.loop.count ≤ c.before.loop.i
+few : (c : tie.In-loop-i invariant-loop decreases-loop) → c.loop-i.count ≤ c.loop-i.i
 few c =
-    let l = c.before.loop in
-    omega (arith, l.invariant.1.0, tally_le (is_set c.before.before.args.flags.now) (ids_from 0 l.i), length_ids 0 l.i)
+    let l = c.loop-i in
+    omega (arith, l.invariant.1.0, tally_le (is_set c.args.flags.now) (ids_from 0 l.i), length_ids 0 l.i)
 
-loop-holds : tie.Need-loop-init invariant-loop decreases-loop
+loop-holds : tie.Need-loop-i-init invariant-loop decreases-loop
 unfolding ids_from those
 loop-holds c = (omega arith, (refl, refl))
 
-element-copy-out-if1 : tie.Need-element-copy-out-if1 invariant-loop decreases-loop
+element-copy-out-if1 : tie.Need-bounds-flags-i invariant-loop decreases-loop
 element-copy-out-if1 c = omega arith
 
-mul-core : tie.Need-overflow-mul-core invariant-loop decreases-loop
-mul-core c = omega (arith, few c.before.before)
+mul-core : tie.Need-offset_bounds-core-count invariant-loop decreases-loop
+mul-core c = omega (arith, few c.before.before.before)
 
-array-write-core : tie.Need-array-write-core invariant-loop decreases-loop
-array-write-core c = omega (arith, few c.before.before)
+array-write-core : tie.Need-bounds-core-count invariant-loop decreases-loop
+array-write-core c = omega (arith, few c.before.before.before)
 
-add-count : tie.Need-overflow-add-count invariant-loop decreases-loop
-add-count c = omega (arith, few c.before.before)
+add-count : tie.Need-overflow_add-count invariant-loop decreases-loop
+add-count c = omega (arith, few c.before.before.before)
 
-add-i : tie.Need-overflow-add-i invariant-loop decreases-loop
+add-i : tie.Need-overflow_add-i invariant-loop decreases-loop
 add-i c = omega arith
 
-loop-less : tie.Need-loop-smaller invariant-loop decreases-loop
+loop-less : tie.Need-loop-i-smaller invariant-loop decreases-loop
 loop-less c = omega arith
 
-loop-again : tie.Need-loop-preserved invariant-loop decreases-loop
+loop-again : tie.Need-loop-i-preserved invariant-loop decreases-loop
 loop-again c =
     let l = c.before.before.before in
-    let test = is_set l.before.args.flags.now in
-    let i = l.loop.i in
+    let test = is_set l.args.flags.now in
+    let i = l.loop-i.i in
     let front = those test (ids_from 0 i) in
     let next = those test (ids_from 0 (i + 1)) in
     ⊎_elim
     (λ w. rw (w.1, w.2) (
       omega arith,
-      written_more front next (replicate 15 0) l.loop.core l.loop.count i (omega (arith, few c.before.before)) (those_next test i true w.0.taken) l.loop.invariant.1,
+      written_more front next (replicate 15 0) l.loop-i.core l.loop-i.count i (omega (arith, few c.before.before.before)) (those_next test i true w.0.taken) l.loop-i.invariant.1,
     ))
     (λ w. rw (w.1, w.2)
-    (omega arith, written_same front next (replicate 15 0) l.loop.core l.loop.count (those_next test i false w.0.left) l.loop.invariant.1))
-    c.if1.branch
+    (omega arith, written_same front next (replicate 15 0) l.loop-i.core l.loop-i.count (those_next test i false w.0.left) l.loop-i.invariant.1))
+    c.if-flags-i.branch
 
 returns : tie.Need-returns invariant-loop decreases-loop
 returns c =
-    let l = c.before.loop in
-    let test = is_set c.before.before.args.flags.now in
+    let l = c.loop-i in
+    let test = is_set c.args.flags.now in
     let z : l.i ≡ 15 = omega arith in
     let w : Written (those test (ids_from 0 15)) (replicate 15 0) l.count l.core = rw z at l.invariant.1 in
     w.1 ∙ ap (λ x. those test (ids_from 0 15) ++ x) (drop_zeros l.count 15 ∙ ap (λ k. replicate (15 - k) 0) (sym w.0))
 
-pub rising-spec : {M : Type 1} → statement M
-rising-spec =
-    tie.close
-    (tie.spec
-    invariant-loop
-    decreases-loop
-    loop-holds
-    element-copy-out-if1
-    mul-core
-    array-write-core
-    add-count
-    add-i
-    loop-less
-    loop-again
-    returns)
+pub rising_spec : {M : Type 1} → statement M
+rising_spec = tie.close (tie.spec invariant-loop decreases-loop loop-holds element-copy-out-if1 mul-core array-write-core add-count add-i loop-less loop-again returns)

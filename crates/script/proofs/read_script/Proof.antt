@@ -1,4 +1,5 @@
--- `script::read_script` meets its contract: words are written only once the answer is known. Assumes nothing.
+use Rattle.script.proofs.read_script.Statement.{statement}
+use Rattle.script.proofs.read_script.Tie as tie
 use native.Mathlib.Omega.{arith}
 use mathlib.Core.List.{List, ◌++◌}
 use mathlib.Core.Path.{◌≡◌, sym, ◌∙◌}
@@ -13,9 +14,8 @@ use Rattle.script.specs.declared.Script.{Script}
 use Rattle.script.specs.declared.Script.TheVariants.{Events}
 use Rattle.script.proofs.Judging.{accepted}
 use Rattle.script.proofs.Most.{at_most}
-use Rattle.script.proofs.read_script.Statement.{statement}
-use Rattle.script.proofs.read_script.Tie as tie
 
+-- `script::read_script` meets its contract: words are written only once the answer is known. Assumes nothing.
 -- how many events there are, and that they fit
 record Counted (text words : List ℕ) (n : ℕ) : Type 0 where
   all : n ≡ length (events_of (said text))
@@ -57,101 +57,86 @@ module _ (text words : List ℕ) (n : ℕ) (k : Counted text words n) where
   sort_asks held held' front h e f = (omega (arith, k.most, k.short), (omega (arith, as_long text words n k front f, k.fits), omega (arith, k.most)))
 
 -- ---- the places
-abbrev start : tie.After-read-lines → tie.Start
+abbrev start : tie.After-read_lines-answer → tie.Start
 start c = c.before.before.before.before.before
 
-abbrev read : tie.After-known-told → tie.After-read-lines
+abbrev read : tie.In-Events → tie.After-read_lines-answer
 read c = c.before.before.before.before.before
 
-counts : (c : tie.After-known-told) → Counted (start (read c)).args.text.now (start (read c)).args.events.now c.before.answer.given.0.0
+counts : (c : tie.In-Events) → Counted (start (read c)).args.text.now (start (read c)).args.events.now c.answer-1.given.0.0
 counts c =
     let r = read c in
     let s = start r in
-    counted s.args.text.now s.args.events.now c.before.answer.given.0.0 r.read-lines.result s.pre.0 r.read-lines.ensures.0 c.before.answer.given.1
+    counted s.args.text.now s.args.events.now c.answer-1.given.0.0 r.read_lines-answer.result s.requires.0 r.read_lines-answer.ensures.0 c.answer-1.given.1
 
-read-lines-requires : tie.Need-read-lines-requires
-read-lines-requires c κs = c.before.before.before.before.requires
+read-lines-requires : tie.Need-read_lines-answer-requires
+read-lines-requires c κs = c.requires
 
-enum-known-answer : tie.Need-enum-known-answer
-enum-known-answer c = c.match.keys1
+enum-known-answer : tie.Need-enum_known-answer
+enum-known-answer c = c.in-Events.keys1
 
-enum_told : tie.Need-enum-told
-enum_told c = c.match.keys2
+enum_told : tie.Need-enum_told-1
+enum_told c = c.in_default.keys2
 
-same_length : tie.Need-same-length
-same_length c = c.before.before.before.before.read-lines.auto.1.0
+same_length : tie.Need-shape_of-held-in_default
+same_length c = c.read_lines-answer.auto.1.0
 
-returns : tie.Need-returns
-returns c = (c.before.before.before.before.read-lines.ensures.0, rw c.enum_told.given.1)
+returns : tie.Need-returns-in_default
+returns c = (c.read_lines-answer.ensures.0, rw c.enum_told-1.given.1)
 
-mul-end : tie.Need-overflow-mul-end
+mul-end : tie.Need-overflow_mul-end
 mul-end c =
     let s = start (read c) in
-    record { fits = small s.args.text.now s.args.events.now c.before.answer.given.0.0 (counts c) }
+    record { fits = small s.args.text.now s.args.events.now c.answer-1.given.0.0 (counts c) }
 
-slice-relend-prefix-copy-front : tie.Need-slice-relend-prefix-copy-front
-slice-relend-prefix-copy-front c = (counts c.before).fits
+slice-relend-prefix-copy-front : tie.Need-slice_bounds-copy_front-end
+slice-relend-prefix-copy-front c = (counts c).fits
 
-slice-aggregate-copy-front : tie.Need-slice-aggregate-copy-front
+slice-aggregate-copy-front : tie.Need-slice_bounds-copy_front-end-2
 slice-aggregate-copy-front c =
-    let k = c.before.before in
-    sym (length-take-le (3 * k.before.answer.given.0.0) (start (read k)).args.events.now (counts k).ranges)
+    let k = c.before in
+    sym (length-take-le (3 * k.answer-1.given.0.0) (start (read k)).args.events.now (counts k).ranges)
 
-copy-front-requires : tie.Need-copy-front-requires
+copy-front-requires : tie.Need-copy_front-requires
 copy-front-requires c κs =
-    let k = c.before.before in
+    let k = c.before in
     let r = read k in
     let s = start r in
-    held_fits s.args.text.now s.args.events.now k.before.answer.given.0.0 (counts k) s.args.held.now r.read-lines.last.1.0 s.pre.1 r.read-lines.kept.1.0
+    held_fits s.args.text.now s.args.events.now k.answer-1.given.0.0 (counts k) s.args.held.now r.read_lines-answer.new.1.0 s.requires.1 r.read_lines-answer.kept.1.0
 
 sort-requires : tie.Need-sort-requires
 sort-requires c κs =
     let f = c.before.before.before.before in
-    let k = f.before.before.before in
+    let k = f.before.before in
     let r = read k in
     let s = start r in
-    sort_asks s.args.text.now s.args.events.now k.before.answer.given.0.0 (counts k) s.args.held.now r.read-lines.last.1.0 f.copy-front.new.1.0 s.pre.1 r.read-lines.kept.1.0 f.copy-front.auto.1.0
+    sort_asks s.args.text.now s.args.events.now k.answer-1.given.0.0 (counts k) s.args.held.now r.read_lines-answer.new.1.0 f.copy_front.new.1.0 s.requires.1 r.read_lines-answer.kept.1.0 f.copy_front.auto.1.0
 
-same-length-2 : tie.Need-same-length-2
+same-length-2 : tie.Need-shape_of-events
 same-length-2 c =
     let w = c.before.before.before.before in
     let f = w.before.before.before.before.before in
-    let k = f.before.before.before in
+    let k = f.before.before in
     let s = start (read k) in
-    w.sort.auto.0 ∙ as_long s.args.text.now s.args.events.now k.before.answer.given.0.0 (counts k) f.copy-front.new.1.0 f.copy-front.auto.1.0
+    w.sort.auto.0 ∙ as_long s.args.text.now s.args.events.now k.answer-1.given.0.0 (counts k) f.copy_front.new.1.0 f.copy_front.auto.1.0
 
-same-length-3 : tie.Need-same-length-3
+same-length-3 : tie.Need-shape_of-held
 same-length-3 c =
     let w = c.before.before.before.before in
-    w.sort.auto.1.1.0 ∙ (read w.before.before.before.before.before.before.before.before).read-lines.auto.1.0
+    w.sort.auto.1.1.0 ∙ (read w.before.before.before.before.before.before.before).read_lines-answer.auto.1.0
 
-returns-2 : tie.Need-returns-2
+returns-2 : tie.Need-returns
 returns-2 c =
     let w = c.before.before.before.before in
     let f = w.before.before.before.before.before in
-    let k = f.before.before.before in
+    let k = f.before.before in
     let r = read k in
     let s = start r in
-    let n = k.before.answer.given in (
-      sym n.1 ∙ r.read-lines.ensures.0,
-      given s.args.text.now s.args.events.now n.0.0 (counts k) f.copy-front.new.1.0 f.copy-front.auto.1.0
-          s.args.held.now r.read-lines.last.1.0 w.sort.new.0 (r.read-lines.ensures.1 n.0.0 n.1) f.copy-front.ensures w.sort.ensures,
+    let n = k.answer-1.given in (
+      sym k.answer-1.given.1 ∙ r.read_lines-answer.ensures.0,
+      given s.args.text.now s.args.events.now k.answer-1.given.0.0 (counts k) f.copy_front.new.1.0 f.copy_front.auto.1.0
+          s.args.held.now r.read_lines-answer.new.1.0 w.sort.new.0 (r.read_lines-answer.ensures.1 k.answer-1.given.0.0 k.answer-1.given.1) f.copy_front.ensures w.sort.ensures,
     )
 
-pub read-script-spec : {M : Type 1} → statement M
-read-script-spec =
-    tie.close
-    (tie.spec
-    read-lines-requires
-    enum-known-answer
-    enum_told
-    same_length
-    returns
-    mul-end
-    slice-relend-prefix-copy-front
-    slice-aggregate-copy-front
-    copy-front-requires
-    sort-requires
-    same-length-2
-    same-length-3
-    returns-2)
+pub read_script_spec : {M : Type 1} → statement M
+read_script_spec = tie.close (tie.spec read-lines-requires enum-known-answer enum_told same_length returns mul-end slice-relend-prefix-copy-front slice-aggregate-copy-front copy-front-requires sort-requires same-length-2 same-length-3 returns-2)

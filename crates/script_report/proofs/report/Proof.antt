@@ -1,4 +1,5 @@
--- `script_report::report` meets its contract: the text for the answer, which always fits. Assumes nothing.
+use Rattle.script_report.proofs.report.Statement.{statement}
+use Rattle.script_report.proofs.report.Tie as tie
 use borrow.Author.Tests.{le-leb, lt-leb}
 use native.Mathlib.Omega.{arith}
 use mathlib.Core.List.{List}
@@ -16,9 +17,8 @@ use Rattle.script.proofs.Laws.{events_counted}
 use Rattle.script_report.specs.Report.{listed, refusal_text, event_room, report_text, enough, report_of, bytes_after}
 use Rattle.script_report.specs.declared.Reported.TheVariants.{Written, NoRoom}
 use borrow.Author.Rules.{rules}
-use Rattle.script_report.proofs.report.Statement.{statement}
-use Rattle.script_report.proofs.report.Tie as tie
 
+-- `script_report::report` meets its contract: the text for the answer, which always fits. Assumes nothing.
 no_room : (text out : List ℕ) → length out < enough → (NoRoom ≡ report_of text (length out)) × (out ≡ bytes_after text out)
 unfolding report_of bytes_after
 no_room text out h = (rw (lt-leb enough (length out) h), rw (lt-leb enough (length out) h))
@@ -47,83 +47,69 @@ given text m w e n f =
     let es = sorted_events text in
     rw (f, length-replicate {A = ℕ} event_room 0, e, take_at (event_words es) (drop (3 * m) (replicate event_room 0)) (3 * m) (omega (arith, length_words_of es))) (events_in_words_of es)
 
-answered : (c : tie.After-parse-script) → script_answer c.before.before.before.before.before.args.text.now event_room ≡ c.parse-script.result
-answered c = ap (script_answer c.before.before.before.before.before.args.text.now) (sym (length-replicate {A = ℕ} event_room 0)) ∙ sym c.parse-script.ensures.0
+answered : (c : tie.After-parse_script) → script_answer c.args.text.now event_room ≡ c.parse_script.result
+answered c = ap (script_answer c.args.text.now) (sym (length-replicate {A = ℕ} event_room 0)) ∙ sym c.parse_script.ensures.0
 
-returns : tie.Need-returns
+returns : tie.Need-returns-then-out-lt-ENOUGH
 returns c =
-    let a = c.before.before.before.args in
-    no_room a.text.now a.out.now c.if1.true
+    let a = c.args in
+    no_room a.text.now a.out.now c.if-out-lt-ENOUGH.true
 
-slice-aggregate-parse-script : tie.Need-slice-aggregate-parse-script
+slice-aggregate-parse-script : tie.Need-slice_bounds-parse_script-end
 slice-aggregate-parse-script c = search rules
 
-parse-script-requires : tie.Need-parse-script-requires
+parse-script-requires : tie.Need-parse_script-requires
 parse-script-requires c κs = search rules
 
-enum-known-count : tie.Need-enum-known-count
+enum-known-count : tie.Need-enum_known-count
 enum-known-count c = search rules
 
-slice-aggregate-put-events : tie.Need-slice-aggregate-put-events
+slice-aggregate-put-events : tie.Need-slice_bounds-put_events-end
 slice-aggregate-put-events c = search rules
 
-put-events-requires : tie.Need-put-events-requires
+put-events-requires : tie.Need-put_events-requires
 put-events-requires c κs =
     let p = c.before.before.before.before.before.before in
-    let a = p.before.before.before.before.before.args in
-    let m = c.before.before.before.count.given in
-    let n = events_counted a.text.now event_room m.0.0 (answered p ∙ m.1) in
-    (omega (arith, n.1), omega (arith, n.1, p.parse-script.auto.1.0), p.before.before.if1.false)
+    let a = p.args in
+    let m = c.count-1.given in
+    let n = events_counted a.text.now event_room c.count-1.given.0.0 (answered p ∙ c.count-1.given.1) in
+    (omega (arith, n.1), omega (arith, n.1, p.parse_script.auto.1.0), p.if-out-lt-ENOUGH.false)
 
-enum-known-refusal : tie.Need-enum-known-refusal
+enum-known-refusal : tie.Need-enum_known-refusal
 enum-known-refusal c = search rules
 
-put-refusal-requires : tie.Need-put-refusal-requires
-put-refusal-requires c κs = c.before.before.before.before.before.before.before.if1.false
+put-refusal-requires : tie.Need-put_refusal-requires
+put-refusal-requires c κs = c.if-out-lt-ENOUGH.false
 
-same_length : tie.Need-same-length
+same_length : tie.Need-shape_of-out-in-Events
 same_length c = search rules
 
-returns-2 : tie.Need-returns-2
+returns-2 : tie.Need-returns-in-Events
 returns-2 c =
     let p = c.before.before.before.before.before.before.before.before.before in
     let s = p.before.before in
-    let a = s.before.before.before.args in
-    let m = c.before.before.before.before.before.before.count.given in
-    let e = answered p ∙ m.1 in
-    let n = events_counted a.text.now event_room m.0.0 e in
-    let w = given a.text.now m.0.0 p.parse-script.new.1.0 e n.0 p.parse-script.ensures.1 in
-    let f = c.before.before.put-events in
-    settled a.text.now a.out.now (listed m.0.0 (sorted_events a.text.now)) f.result f.new.1.1.0 s.if1.false (accepted_text a.text.now m.0.0 e)
+    let a = s.args in
+    let m = c.count-1.given in
+    let e = answered p ∙ c.count-1.given.1 in
+    let n = events_counted a.text.now event_room c.count-1.given.0.0 e in
+    let w = given a.text.now c.count-1.given.0.0 p.parse_script.new.1.0 e n.0 p.parse_script.ensures.1 in
+    let f = c.put_events in
+    settled a.text.now a.out.now (listed c.count-1.given.0.0 (sorted_events a.text.now)) f.result f.new.1.1.0 s.if-out-lt-ENOUGH.false (accepted_text a.text.now c.count-1.given.0.0 e)
     (rw w at f.ensures.0) (rw w at f.ensures.1)
 
-same-length-2 : tie.Need-same-length-2
+same-length-2 : tie.Need-shape_of-out-in-Refused
 same-length-2 c = search rules
 
-returns-3 : tie.Need-returns-3
+returns-3 : tie.Need-returns-in-Refused
 returns-3 c =
     let f = c.before.before in
     let p = f.before.before.before.before.before.before in
     let s = p.before.before in
-    let a = s.before.before.before.args in
-    let g = f.before.before.before.refusal.given in
-    let e = answered p ∙ g.1 in
-    settled a.text.now a.out.now (refusal_text g.0.0 g.0.1.0) f.put-refusal.result f.put-refusal.new.1.1.0 s.if1.false
-    (refused_text a.text.now g.0.0 g.0.1.0 e) f.put-refusal.ensures.0 f.put-refusal.ensures.1
+    let a = s.args in
+    let g = f.refusal-1.given in
+    let e = answered p ∙ f.refusal-1.given.1 in
+    settled a.text.now a.out.now (refusal_text f.refusal-1.given.0.0 f.refusal-1.given.0.1.0) f.put_refusal.result f.put_refusal.new.1.1.0 s.if-out-lt-ENOUGH.false
+    (refused_text a.text.now f.refusal-1.given.0.0 f.refusal-1.given.0.1.0 e) f.put_refusal.ensures.0 f.put_refusal.ensures.1
 
-pub report-spec : {M : Type 1} → statement M
-report-spec =
-    tie.close
-    (tie.spec
-    returns
-    slice-aggregate-parse-script
-    parse-script-requires
-    enum-known-count
-    slice-aggregate-put-events
-    put-events-requires
-    enum-known-refusal
-    put-refusal-requires
-    same_length
-    returns-2
-    same-length-2
-    returns-3)
+pub report_spec : {M : Type 1} → statement M
+report_spec = tie.close (tie.spec returns slice-aggregate-parse-script parse-script-requires enum-known-count slice-aggregate-put-events put-events-requires enum-known-refusal put-refusal-requires same_length returns-2 same-length-2 returns-3)

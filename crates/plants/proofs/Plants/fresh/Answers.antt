@@ -1,0 +1,6 @@
+-- `plants::Plants::fresh` meets its contract. Assumes nothing.
+use borrow.Author.Rules.{rules}
+use Rattle.plants.proofs.Plants.fresh.Goals as goal
+
+pub returns : goal.returns
+returns c = rw c.first_set-up.ensures

@@ -1,0 +1,6 @@
+-- `plants_layout::load` meets its contract, field by field. Assumes nothing.
+use borrow.Author.Rules.{rules}
+use Rattle.plants_layout.proofs.load.Goals as goal
+
+pub returns : goal.returns
+returns c = cc

@@ -1,0 +1,20 @@
+use native.Mathlib.Omega.{arith}
+use native.Mathlib.Nat.{sub-zero}
+use mathlib.Core.List.{List}
+use mathlib.Core.Path.{◌≡◌, sym, ◌∙◌}
+use Prim.Native.Nat.{ℕ, ◌-◌, ◌≤◌}
+use lib.IntN.{ℤ}
+use lib.ListN.{length, get_or}
+use Rattle.properties_snapshots.specs.Cluster.{cluster_in}
+use Rattle.properties_verdicts.specs.Verdicts.{first_answer}
+use Rattle.properties_verdicts.proofs.First.{no_pass, first_on, first_stop, first_end}
+use Rattle.properties_convergence.specs.Convergence.{converged_with, converged}
+use Rattle.properties_verdicts.specs.declared.Answer.{Answer}
+use Rattle.properties_convergence.proofs.convergence.Given as goal
+
+abbrev pub invariant-loop-k : goal.invariant-loop-k
+invariant-loop-k l = (l.k ≤ length l.core) × (first_answer (at l.n l.plants l.logs l.values l.core l.tracker) 0 (length l.core) ≡
+    first_answer (at l.n l.plants l.logs l.values l.core l.tracker) l.k (length l.core - l.k))
+
+abbrev pub decreases-loop-k : goal.decreases-loop-k
+decreases-loop-k l = length l.core - l.k

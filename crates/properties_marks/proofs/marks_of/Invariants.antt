@@ -1,0 +1,16 @@
+use native.Mathlib.Omega.{arith}
+use mathlib.Core.List.{List}
+use mathlib.Core.Path.{◌≡◌, ap, subst, ◌∙◌}
+use Prim.Native.Nat.{ℕ, ◌+◌, ◌-◌, ◌≤◌, ◌<◌, ◌%◌}
+use lib.ListN.{length, get_or, set, length-set, length-replicate}
+use Rattle.properties_snapshots.specs.Layout.{seen_at}
+use Rattle.properties_snapshots.proofs.Below.{below_more}
+use Rattle.properties_marks.specs.Marks.{marks, Marked}
+use Rattle.properties_marks.proofs.Walk.{mark_set, mark_kept}
+use Rattle.properties_marks.proofs.marks_of.Given as goal
+
+abbrev pub invariant-loop-j : goal.invariant-loop-j
+invariant-loop-j l = (l.j ≤ l.count) × (length l.seen ≡ marks) × ((k : ℕ) → k < l.j → Marked l.seen (get_or l.tracker (seen_at l.n l.r k) 0))
+
+abbrev pub decreases-loop-j : goal.decreases-loop-j
+decreases-loop-j l = l.count - l.j

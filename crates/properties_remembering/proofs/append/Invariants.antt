@@ -1,0 +1,22 @@
+use native.Mathlib.Omega.{arith}
+use mathlib.Core.List.{List, [], ◌++◌}
+use mathlib.Core.Path.{◌≡◌, refl, sym, ap, ◌∙◌}
+use Prim.Native.Nat.{ℕ, ◌+◌, ◌-◌, ◌*◌, ◌≤◌, ◌<◌}
+use lib.ListN.{length}
+use Rattle.properties_snapshots.specs.Below.{numbered}
+use Rattle.properties_snapshots.specs.Cluster.{LogEntry, words_of_entry, words_of_entries, entry_in, cluster_in}
+use Rattle.basis.specs.Basis.{fewest, laid}
+use Rattle.properties_snapshots.specs.Layout.{entry_words, entry_at, canonical_at}
+use Rattle.properties_snapshots.proofs.Below.{length-numbered, numbered_more, numbered_none}
+use Rattle.properties_snapshots.proofs.Laid.{laid_none, laid_on}
+use Rattle.properties_agreement.specs.Agreement.{committer}
+use Rattle.properties_agreement.proofs.Reached.{committer_below}
+use Rattle.properties_remembering.proofs.Written.{length_words, words_more}
+use Rattle.properties_remembering.proofs.append.Given as goal
+
+abbrev pub invariant-loop-i : goal.invariant-loop-i
+invariant-loop-i l = (l.known ≤ l.i) × (l.i ≤ l.longest) × (length l.tracker ≡ length l.initial.tracker) ×
+    ((t : List ℕ) → l.tracker ≡ laid l.initial.tracker (canonical_at l.n l.known) (words_of_entries (numbered (l.i - l.known) (source l.n l.plants l.logs t l.known))))
+
+abbrev pub decreases-loop-i : goal.decreases-loop-i
+decreases-loop-i l = l.longest - l.i

@@ -1,0 +1,19 @@
+use borrow.Author.Rules.{rules}
+use native.Mathlib.Omega.{arith}
+use mathlib.Core.List.{List}
+use mathlib.Core.Path.{◌≡◌, refl, ap, ◌∙◌}
+use Prim.Native.Nat.{ℕ, ◌+◌, ◌-◌, ◌≤◌}
+use lib.ListN.{length, get_or, set, length-set}
+use Rattle.properties_snapshots.specs.Below.{numbered}
+use Rattle.properties_snapshots.specs.Cluster.{last}
+use Rattle.basis.specs.Basis.{laid}
+use Rattle.properties_snapshots.specs.Layout.{id_at, entry_at, seen_at}
+use Rattle.properties_snapshots.proofs.Laid.{laid-numbered, laid_start}
+use Rattle.properties_remembering.proofs.put_plant_ids.Given as goal
+
+abbrev pub invariant-loop-i : goal.invariant-loop-i
+invariant-loop-i l = (l.last ≤ l.i) × (l.i ≤ l.commit) × (length l.tracker ≡ length l.initial.tracker) ×
+    (l.tracker ≡ laid l.initial.tracker (seen_at l.n l.r l.last) (numbered (l.i - l.last) (ids l.logs l.r l.last)))
+
+abbrev pub decreases-loop-i : goal.decreases-loop-i
+decreases-loop-i l = l.commit - l.i

@@ -1,0 +1,12 @@
+-- `samples_network::journaled_take` is safe and ends. Assumes nothing.
+use native.Mathlib.Omega.{arith}
+use borrow.Author.Rules.{rules}
+use mathlib.Core.Path.{sym}
+use lib.Seq.{length-take-le}
+use Rattle.samples_network.proofs.journaled_take.Goals as goal
+
+pub slice_bounds-bellmantle_journal_take_due-end-2 : goal.slice_bounds-bellmantle_journal_take_due-end-2
+slice_bounds-bellmantle_journal_take_due-end-2 c = sym (length-take-le _ _ (omega arith))
+
+pub slice_bounds-bellmantle_journal_take_due-end-4 : goal.slice_bounds-bellmantle_journal_take_due-end-4
+slice_bounds-bellmantle_journal_take_due-end-4 c = sym (length-take-le _ _ (omega arith))

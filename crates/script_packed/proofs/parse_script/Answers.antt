@@ -1,0 +1,17 @@
+-- `script_packed::parse_script` meets its contract: what is told of a text is so small that its parts fit below each other. Assumes
+-- nothing.
+use mathlib.Core.Path.{sym, ap, ◌∙◌}
+use lib.ListN.{length}
+use Rattle.script_packed.specs.Packing.{answer_word}
+use Rattle.script_packed.proofs.Parts.{below_factor}
+use borrow.Author.Rules.{rules}
+use Rattle.script_packed.proofs.parse_script.Goals as goal
+
+pub packed-requires : goal.packed-requires
+packed-requires c = below_factor c.args.text.now (length c.args.events.now) c.in-Refused.refusal c.in-Refused.line (sym c.parse_script.ensures.answer ∙ c.in-Refused.is)
+
+pub returns-in-Events : goal.returns-in-Events
+returns-in-Events c = record { answer = sym (ap answer_word (sym c.parse_script.ensures.answer ∙ c.in-Events.is)); words = c.parse_script.ensures.words }
+
+pub returns-in-Refused : goal.returns-in-Refused
+returns-in-Refused c = record { answer = c.packed.ensures ∙ sym (ap answer_word (sym c.parse_script.ensures.answer ∙ c.in-Refused.is)); words = c.parse_script.ensures.words }

@@ -1,0 +1,7 @@
+-- `script_stray::comment_end` meets its contract. Assumes nothing.
+use mathlib.Core.Path.{◌≡◌, sym, ◌∙◌}
+use borrow.Author.Rules.{rules}
+use Rattle.script_stray.proofs.comment_end.Goals as goal
+
+pub returns : goal.returns
+returns c = c.find.ensures ∙ sym c.near_feed-near.ensures.reached

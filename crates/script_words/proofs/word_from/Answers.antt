@@ -1,0 +1,22 @@
+-- `script_words::word_from` meets its contract. Assumes nothing.
+use borrow.Author.Rules.{rules}
+use mathlib.Core.Path.{◌≡◌, ap, ◌∙◌}
+use mathlib.Core.List.{List}
+use Prim.Native.Nat.{ℕ, ◌+◌}
+use lib.ListN.{drop}
+use Rattle.script_words.specs.Words.{is_space, not_space, until, word_from}
+use Rattle.script_words.specs.declared.Bounds.{Bounds}
+use Rattle.script_words.proofs.Walk.{until_in}
+use Rattle.script_words.proofs.word_from.Goals as goal
+
+word_is : (l : List ℕ) (place s e : ℕ) → s ≡ place + until not_space (drop place l) → e ≡ s + until is_space (drop s l)
+    → ◌≡◌ {A = Bounds} (record { start = s; end = e }) (word_from l place)
+unfolding word_from
+word_is l place s e p q = λ i. record { start = p i; end = (q ∙ ap (λ (x : ℕ). x + until is_space (drop x l)) p) i }
+
+pub skip_word-end-requires : goal.skip_word-end-requires
+skip_word-end-requires c = rw c.skip_space-start.ensures (until_in not_space c.args.line.now c.args.place c.requires)
+
+pub returns : goal.returns
+returns c = let s = c.args in
+    word_is s.line.now s.place c.skip_space-start.result c.skip_word-end.result c.skip_space-start.ensures c.skip_word-end.ensures
