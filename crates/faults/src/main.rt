@@ -7,6 +7,7 @@ ghost use Rattle.script.specs.Scripts.{longest};
 
 use input::Input;
 use script_report::Reported;
+use std::io::{self, Write};
 
 // The longest script and one byte more, so that a longer one is seen to be.
 const TEXT: usize = script::LONGEST + 1;
@@ -18,17 +19,18 @@ fn room() -> [u8; TEXT]
     [0; TEXT]
 }
 
-fn main() {
+fn main(rt: HostRuntime) -> io::Result<()> {
     let mut text = room();
-    let Input::Bytes(length) = input::read_all(libc::STDIN_FILENO, &mut text) else {
-        os::fail(b"faults: standard input");
-        return;
+    let length = match input::read_all(&mut rt.stdin(), &mut text) {
+        Input::Bytes(length) => length,
+        Input::Unreadable(error) => return eprintln!(rt; "faults: standard input: {error}"),
     };
     let mut out = script_report::room();
     let Reported::Written(written) = script_report::report(&text[..length], &mut out) else {
-        return;
+        return Ok(());
     };
-    if !io::write_all(libc::STDOUT_FILENO, &out[..written]) {
-        os::fail(b"faults: standard output");
+    if let Err(error) = rt.stdout().write_all(&out[..written]) {
+        return eprintln!(rt; "faults: standard output: {error}");
     }
+    Ok(())
 }

@@ -8,8 +8,8 @@ use Rattle.input.specs.declared.Input.TheVariants.{Bytes as All, Unreadable}
 abbrev pub Moved : Got → ℕ → Type 0
 Moved (Bytes n) room = (1 ≤ n) × (n ≤ room)
 Moved End room = Unit {0}
-Moved Failed room = Unit {0}
+Moved (Failed error) room = Unit {0}
 
 abbrev pub Filled : Input → ℕ → Type 0
 Filled (All n) room = n ≤ room
-Filled Unreadable room = Unit {0}
+Filled (Unreadable error) room = Unit {0}

@@ -5,46 +5,44 @@
 ghost use Rattle.std.specs.Prelude.{length};
 ghost use Rattle.input.specs.Input.{Moved, Filled};
 
+use std::io::{Error, Read};
+
 // What one read did.
-#[derive(Clone, Copy)]
+#[derive(Drop)]
 enum Got {
     Bytes(usize),
     End,
-    Failed,
+    Failed(Error),
 }
 
 // What was read in all: so many bytes, or a read failed.
-#[derive(Clone, Copy)]
+#[derive(Drop)]
 pub enum Input {
     Bytes(usize),
-    Unreadable,
+    Unreadable(Error),
 }
 
 // One read to the front of buf, which a caller makes only where buf has room.
-fn read_some(fd: i32, buf: &mut [u8]) -> Got
+fn read_some<R: Read>(from: &mut R, buf: &mut [u8]) -> Got
     ensures { Moved result (length buf.new) }
 {
-    let got = libc::read(fd, buf);
-    if got < 0 {
-        return Got::Failed;
+    match from.read(buf) {
+        Ok(0) => Got::End,
+        Ok(n) => Got::Bytes(n),
+        Err(error) => Got::Failed(error),
     }
-    let n = io::count(got, buf);
-    if n == 0 {
-        return Got::End;
-    }
-    Got::Bytes(n)
 }
 
 // Reads to the end of the input, or until buf is full: a caller who must know that there is no more lends a byte more than it takes.
-pub fn read_all(fd: i32, buf: &mut [u8]) -> Input
+pub fn read_all<R: Read>(from: &mut R, buf: &mut [u8]) -> Input
     ensures { Filled result (length buf.new) }
 {
     let mut done: usize = 0;
     while done < buf.len() {
-        match read_some(fd, &mut buf[done..]) {
+        match read_some(from, &mut buf[done..]) {
             Got::Bytes(n) => done += n,
             Got::End => return Input::Bytes(done),
-            Got::Failed => return Input::Unreadable,
+            Got::Failed(error) => return Input::Unreadable(error),
         }
     }
     Input::Bytes(done)
