@@ -1,6 +1,6 @@
-// The boundary for the host: our calls over numbers and lent words, for a program in another language to link. A state and an answer are
-// lent words; a call returns 0, or the number of its refusal, and on a refusal no lent word changes. include/bellmantle.h declares each
-// function, each word of each layout and each number.
+// The boundary for the host: our calls over numbers and lent words. A state and an answer are lent words; a call returns 0, or the number
+// of its refusal, and on a refusal no lent word changes. bellmantle_c exports each of these calls for a program in another language to
+// link, and include/bellmantle.h declares each function, each word of each layout and each number.
 #![tactic(auto)]
 
 ghost use Rattle.std.specs.Prelude.{◌≡◌, [], ◌∷◌, length};
@@ -32,8 +32,7 @@ ghost use Rattle.script_packed.specs.Packing.{answer_word};
 // Reads a fault script into the lent words, three for each event: tick, fault and id. Answers how many
 // events there are or, for a refusal, its number times 2^56, why times 2^48 and byte times 2^24 of a tick or an
 // id that is no number (0 and 0 for any other), and its line.
-#[unsafe(no_mangle)]
-pub extern "C" fn bellmantle_parse_script(text: &[u8], events: &mut [u64]) -> u64
+pub fn bellmantle_parse_script(text: &[u8], events: &mut [u64]) -> u64
     ensures answer { result ≡ answer_word (script_answer text.now (length events.old)) }
     ensures words { events.new ≡ script_words text.now events.old }
 {
@@ -43,8 +42,7 @@ pub extern "C" fn bellmantle_parse_script(text: &[u8], events: &mut [u64]) -> u6
 // ---- Network
 
 // A fresh network of these options; the flag is no for 0 and yes otherwise.
-#[unsafe(no_mangle)]
-pub extern "C" fn bellmantle_network_new(
+pub fn bellmantle_network_new(
     head: &mut [u64; network_layout::HEAD_WORDS],
     records: &mut [u64; network_queue::WORDS],
     loss: u64,
@@ -61,8 +59,7 @@ pub extern "C" fn bellmantle_network_new(
 }
 
 // Replaces the options.
-#[unsafe(no_mangle)]
-pub extern "C" fn bellmantle_network_set_options(
+pub fn bellmantle_network_set_options(
     head: &mut [u64; network_layout::HEAD_WORDS],
     records: &[u64; network_queue::WORDS],
     loss: u64,
@@ -78,8 +75,7 @@ pub extern "C" fn bellmantle_network_set_options(
 }
 
 // Accepts a message sent at tick `now`: whether it was lost, whether it was replayed, and the draws and extras used are told.
-#[unsafe(no_mangle)]
-pub extern "C" fn bellmantle_network_send(
+pub fn bellmantle_network_send(
     head: &mut [u64; network_layout::HEAD_WORDS],
     records: &mut [u64; network_queue::WORDS],
     now: u64,
@@ -114,8 +110,7 @@ pub extern "C" fn bellmantle_network_send(
 
 // What becomes of a message of a kind that is sent at tick `now` under these options, with no network: whether it is lost, whether it is
 // replayed, the draws and extras used, and the due ticks of the copy and of the original are told.
-#[unsafe(no_mangle)]
-pub extern "C" fn bellmantle_fate(
+pub fn bellmantle_fate(
     loss: u64,
     replay: u64,
     min: u64,
@@ -137,8 +132,7 @@ pub extern "C" fn bellmantle_fate(
 }
 
 // Takes every message due at tick `now` to the front of the lent output: how many they are is told.
-#[unsafe(no_mangle)]
-pub extern "C" fn bellmantle_network_take_due(
+pub fn bellmantle_network_take_due(
     head: &mut [u64; network_layout::HEAD_WORDS],
     records: &mut [u64; network_queue::WORDS],
     now: u64,
@@ -155,8 +149,7 @@ pub extern "C" fn bellmantle_network_take_due(
 }
 
 // How many messages are in flight is told.
-#[unsafe(no_mangle)]
-pub extern "C" fn bellmantle_network_pending(
+pub fn bellmantle_network_pending(
     head: &[u64; network_layout::HEAD_WORDS],
     records: &[u64; network_queue::WORDS],
     told: &mut [u64; 1],
@@ -168,8 +161,7 @@ pub extern "C" fn bellmantle_network_pending(
 }
 
 // The messages in flight, in delivery order, at the front of the lent output: how many they are is told.
-#[unsafe(no_mangle)]
-pub extern "C" fn bellmantle_network_in_flight(
+pub fn bellmantle_network_in_flight(
     head: &[u64; network_layout::HEAD_WORDS],
     records: &[u64; network_queue::WORDS],
     out: &mut [u64],
@@ -185,8 +177,7 @@ pub extern "C" fn bellmantle_network_in_flight(
 // ---- A whole tick
 
 // The sends of a tick and then a take at `now`: the draws and the extras used and the records taken are told.
-#[unsafe(no_mangle)]
-pub extern "C" fn bellmantle_network_tick(
+pub fn bellmantle_network_tick(
     head: &mut [u64; network_layout::HEAD_WORDS],
     records: &mut [u64; network_queue::WORDS],
     sends: &[u64],
@@ -213,8 +204,7 @@ pub extern "C" fn bellmantle_network_tick(
 // ---- Journal
 
 // Forgets the calls held.
-#[unsafe(no_mangle)]
-pub extern "C" fn bellmantle_journal_mark(journal: &mut [u64]) -> u64
+pub fn bellmantle_journal_mark(journal: &mut [u64]) -> u64
     ensures answer { result ≡ answer_code (mark_answer journal.old) }
     ensures journal { journal.new ≡ mark_words journal.old }
 {
@@ -222,8 +212,7 @@ pub extern "C" fn bellmantle_journal_mark(journal: &mut [u64]) -> u64
 }
 
 // A journaled send.
-#[unsafe(no_mangle)]
-pub extern "C" fn bellmantle_journal_send(
+pub fn bellmantle_journal_send(
     head: &mut [u64; network_layout::HEAD_WORDS],
     records: &mut [u64; network_queue::WORDS],
     now: u64,
@@ -255,8 +244,7 @@ pub extern "C" fn bellmantle_journal_send(
 }
 
 // A journaled take.
-#[unsafe(no_mangle)]
-pub extern "C" fn bellmantle_journal_take_due(
+pub fn bellmantle_journal_take_due(
     head: &mut [u64; network_layout::HEAD_WORDS],
     records: &mut [u64; network_queue::WORDS],
     now: u64,
@@ -279,8 +267,7 @@ pub extern "C" fn bellmantle_journal_take_due(
 }
 
 // A journaled change of the options.
-#[unsafe(no_mangle)]
-pub extern "C" fn bellmantle_journal_set_options(
+pub fn bellmantle_journal_set_options(
     head: &mut [u64; network_layout::HEAD_WORDS],
     records: &[u64; network_queue::WORDS],
     loss: u64,
@@ -298,8 +285,7 @@ pub extern "C" fn bellmantle_journal_set_options(
 }
 
 // Goes back over the last k calls held.
-#[unsafe(no_mangle)]
-pub extern "C" fn bellmantle_journal_rewind(
+pub fn bellmantle_journal_rewind(
     head: &mut [u64; network_layout::HEAD_WORDS],
     records: &mut [u64; network_queue::WORDS],
     k: u64,
@@ -316,8 +302,7 @@ pub extern "C" fn bellmantle_journal_rewind(
 // ---- Plants and core
 
 // Fresh plants.
-#[unsafe(no_mangle)]
-pub extern "C" fn bellmantle_plants_new(n: u64, words: &mut [u64; plants_layout::WORDS]) -> u64
+pub fn bellmantle_plants_new(n: u64, words: &mut [u64; plants_layout::WORDS]) -> u64
     ensures answer { result ≡ new_answer n }
     ensures words { words.new ≡ new_words n words.old }
 {
@@ -325,8 +310,7 @@ pub extern "C" fn bellmantle_plants_new(n: u64, words: &mut [u64; plants_layout:
 }
 
 // Injects a fault at a tick; a reboot's nonce is told.
-#[unsafe(no_mangle)]
-pub extern "C" fn bellmantle_plants_apply(
+pub fn bellmantle_plants_apply(
     words: &mut [u64; plants_layout::WORDS],
     tick: u64,
     fault: u64,
@@ -342,8 +326,7 @@ pub extern "C" fn bellmantle_plants_apply(
 }
 
 // What becomes of a message that is due at plant `to`: its verdict is told.
-#[unsafe(no_mangle)]
-pub extern "C" fn bellmantle_plants_verdict(
+pub fn bellmantle_plants_verdict(
     words: &[u64; plants_layout::WORDS],
     sort: u64,
     id: u64,
@@ -357,8 +340,7 @@ pub extern "C" fn bellmantle_plants_verdict(
 }
 
 // What becomes of the messages of a take, eight words each: a verdict is told for each.
-#[unsafe(no_mangle)]
-pub extern "C" fn bellmantle_plants_verdicts(
+pub fn bellmantle_plants_verdicts(
     words: &[u64; plants_layout::WORDS],
     records: &[u64],
     told: &mut [u64],
@@ -370,8 +352,7 @@ pub extern "C" fn bellmantle_plants_verdicts(
 }
 
 // Chooses the core of plants that stays up; `full` is no for 0 and yes otherwise.
-#[unsafe(no_mangle)]
-pub extern "C" fn bellmantle_plants_choose_core(
+pub fn bellmantle_plants_choose_core(
     words: &mut [u64; plants_layout::WORDS],
     recovering: &[u64],
     picks: &[u64],
@@ -388,8 +369,7 @@ pub extern "C" fn bellmantle_plants_choose_core(
 // ---- Properties
 
 // A fresh tracker.
-#[unsafe(no_mangle)]
-pub extern "C" fn bellmantle_properties_fresh(n: u64, tracker: &mut [u64]) -> u64
+pub fn bellmantle_properties_fresh(n: u64, tracker: &mut [u64]) -> u64
     ensures answer { result ≡ answer_number (fresh_answer n (length tracker.old)) }
     ensures tracker { tracker.new ≡ fresh_words n tracker.old }
 {
@@ -397,8 +377,7 @@ pub extern "C" fn bellmantle_properties_fresh(n: u64, tracker: &mut [u64]) -> u6
 }
 
 // A plant came back without its memory.
-#[unsafe(no_mangle)]
-pub extern "C" fn bellmantle_properties_reboot(n: u64, id: u64, tracker: &mut [u64]) -> u64
+pub fn bellmantle_properties_reboot(n: u64, id: u64, tracker: &mut [u64]) -> u64
     ensures answer { result ≡ answer_number (reboot_answer n id tracker.old) }
     ensures tracker { tracker.new ≡ reboot_words n id tracker.old }
 {
@@ -406,8 +385,7 @@ pub extern "C" fn bellmantle_properties_reboot(n: u64, id: u64, tracker: &mut [u
 }
 
 // After a tick.
-#[unsafe(no_mangle)]
-pub extern "C" fn bellmantle_properties_tick(
+pub fn bellmantle_properties_tick(
     n: u64,
     plants: &[u64],
     logs: &[u64],
@@ -422,8 +400,7 @@ pub extern "C" fn bellmantle_properties_tick(
 }
 
 // At the end of a run.
-#[unsafe(no_mangle)]
-pub extern "C" fn bellmantle_properties_end(
+pub fn bellmantle_properties_end(
     n: u64,
     plants: &[u64],
     logs: &[u64],
