@@ -1,11 +1,11 @@
 //! Links the archive of the proved library: the one that BELLMANTLE_LIB names, where a relative path counts from the
-//! repository's root, or else the one that `rt staticlib bellmantle` writes, which is run if it is not there.
+//! repository's root, or else the one that `tools/archive` writes, which is run if it is not there.
 
 use std::env;
 use std::path::{Path, PathBuf};
 use std::process::Command;
 
-const BUILT_BY_RT: &str = "target/staticlib/libbellmantle.a";
+const BUILT: &str = "target/staticlib/libbellmantle.a";
 
 fn main() {
     println!("cargo:rerun-if-env-changed=BELLMANTLE_LIB");
@@ -31,14 +31,12 @@ fn main() {
 
 /// The archive in the repository's target/, built if it is missing.
 fn built(root: &Path) -> PathBuf {
-    let archive = root.join(BUILT_BY_RT);
+    let archive = root.join(BUILT);
     if !archive.exists() {
-        let status = Command::new("rt")
-            .args(["staticlib", "bellmantle"])
-            .current_dir(root)
+        let status = Command::new(root.join("tools/archive"))
             .status()
-            .expect("the Rattle toolchain's command rt is needed to build the library");
-        assert!(status.success(), "rt staticlib bellmantle failed");
+            .expect("tools/archive needs Python 3 and the Rattle toolchain");
+        assert!(status.success(), "tools/archive failed");
     }
     archive
 }
