@@ -9,7 +9,6 @@ use lib.Dec.{ltb, eqb}
 use lib.ListN.{length, take, drop, length-drop, take-append-drop}
 use Rattle.basis.specs.Basis.{laid}
 use Rattle.order.specs.Order.{event_words}
-use Rattle.order.specs.Order as order
 use Rattle.script_words.proofs.Walk.{until_in}
 use Rattle.script.specs.Lines.{line_says}
 use Rattle.script.specs.Scripts.{longest, held_words, line_events, events_of, lines_judged, judged_line, said}

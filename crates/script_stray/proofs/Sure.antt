@@ -5,7 +5,7 @@ use mathlib.Core.List.{List, [], ◌∷◌}
 use mathlib.Core.Path.{◌≡◌, refl, sym, ap, ◌∙◌}
 use Prim.Native.Nat.{ℕ, zero, suc, ◌≤◌, ◌<◌}
 use native.Mathlib.Omega.{arith}
-use borrow.Author.Tests.{ltb-true, ltb-false, eqb-true, eqb-false, eq-eqb, ne_eqb, le-ltb}
+use borrow.Author.Tests.{ltb-false, eqb-true, eqb-false, eq-eqb, ne_eqb, le-ltb}
 use lib.Dec.{ltb, eqb}
 use lib.ListN.{drop}
 use Rattle.script_words.specs.Words.{until}
@@ -13,8 +13,7 @@ use Rattle.script_utf8.specs.Utf8.{in_range, Awaiting, between, inside, ill_form
 use Rattle.script_utf8.proofs.Exact.{at_1, below_range}
 use Rattle.script_stray.specs.Stray.{stray_line}
 use Rattle.script_stray.specs.Walk.{spot_of, spot_after, spot_ends, stray_from, words_plain}
-use Rattle.script_stray.specs.declared.Spot.{Spot}
-use Rattle.script_stray.specs.declared.Spot.TheVariants.{Words, Between, Inside, Astray}
+use Rattle.script_stray.specs.declared.Spot.TheVariants.{Words, Between, Astray}
 use Rattle.script_stray.proofs.Walking.{spot_of_lem, walk_finds}
 
 -- ---- what is awaited inside a character is over 127

@@ -3,17 +3,16 @@
 use mathlib.Core.Bool.{Bool, true, false, cond, not, ◌||◌, false≢true}
 use mathlib.Core.List.{List, [], ◌∷◌}
 use mathlib.Core.Path.{◌≡◌, refl, sym, ap, ◌∙◌}
-use Prim.Native.Nat.{ℕ, suc, ◌≤◌, ◌<◌}
+use Prim.Native.Nat.{ℕ, suc}
 use native.Mathlib.Omega.{arith}
-use borrow.Author.Tests.{ltb-true, ltb-false, le-ltb, ne_eqb}
+use borrow.Author.Tests.{ltb-true, ltb-false, ne_eqb}
 use lib.Dec.{ltb, eqb}
-use lib.ListN.{take, drop}
 use Rattle.script_words.specs.Words.{until, cut_at, joined, lines_of}
-use Rattle.script_utf8.specs.Utf8.{in_range, Awaiting, between, inside, ill_formed, sequences, after_first, after_this, after_byte, may_end, utf8_from}
+use Rattle.script_utf8.specs.Utf8.{in_range, Awaiting, between, inside, ill_formed, after_this, after_byte, may_end, utf8_from}
 use Rattle.script_stray.specs.Stray.{comment_of, has_over, is_stray, first_stray, stray_line}
 use Rattle.script_stray.specs.Walk.{spot_of, spot_after, spot_ends, stray_from}
 use Rattle.script_stray.specs.declared.Spot.{Spot}
-use Rattle.script_stray.specs.declared.Spot.TheVariants.{Words, Between, Inside, Astray}
+use Rattle.script_stray.specs.declared.Spot.TheVariants.{Words, Between, Astray}
 use Rattle.script_utf8.proofs.Exact.{at_1}
 
 -- whether what is left of a line is stray, from a spot on

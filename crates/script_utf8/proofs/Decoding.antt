@@ -1,11 +1,10 @@
 -- Decoding gives back what was encoded. Assumes nothing.
-use mathlib.Core.Bool.{true}
-use mathlib.Core.List.{List, [], ◌∷◌, ◌++◌}
+use mathlib.Core.List.{List, ◌∷◌}
 use mathlib.Core.Path.{◌≡◌, ◌∙◌}
-use Prim.Native.Nat.{ℕ, ◌+◌, ◌-◌, ◌*◌, ◌/◌, ◌%◌, ◌≤◌, ◌<◌}
+use Prim.Native.Nat.{ℕ, ◌+◌, ◌-◌, ◌/◌, ◌≤◌, ◌<◌}
 use native.Mathlib.Omega.{arith}
 use borrow.Author.Tests.{le-leb, lt-leb}
-use Rattle.script_utf8.specs.Utf8.{scalar, continuation, encode, six_more, scalar_at, behind_scalar, Utf8Decoded}
+use Rattle.script_utf8.specs.Utf8.{continuation, six_more, scalar_at, behind_scalar, Utf8Decoded}
 use Rattle.script_utf8.proofs.Exact.{encode_1, encode_2, encode_3, encode_4, split}
 
 six_more_lem : (n m : ℕ) → m ≡ n / 64 → six_more m (continuation n) ≡ n

@@ -1,8 +1,7 @@
 -- Byte lists that people have stumbled on, by computation. Assumes nothing.
 use mathlib.Core.Bool.{true, false}
-use mathlib.Core.List.{List, [], ◌∷◌}
+use mathlib.Core.List.{[], ◌∷◌}
 use mathlib.Core.Path.{◌≡◌, refl}
-use Prim.Native.Nat.{ℕ}
 use Rattle.script_utf8.specs.Utf8.{in_range, after_first, after_this, after_byte, may_end, utf8_from, is_utf8, encode}
 
 -- U+0000 in two bytes

@@ -1,7 +1,7 @@
 -- `script::parse_script` meets its contract: the tests come in the definition's order. Assumes nothing.
 use borrow.Author.Tests.{lt-ltb, le-ltb, eq-eqb, ne_eqb}
 use mathlib.Core.List.{List}
-use mathlib.Core.Path.{◌≡◌, sym, ap, ◌∙◌}
+use mathlib.Core.Path.{◌≡◌, sym, ◌∙◌}
 use Prim.Native.Nat.{ℕ, ◌/◌, ◌≤◌, ◌<◌}
 use lib.ListN.{length}
 use Rattle.script_stray.specs.Stray.{stray_line}
@@ -10,7 +10,6 @@ use Rattle.script.specs.declared.line.Refusal.{Refusal}
 use Rattle.script.specs.declared.line.Refusal.TheVariants.{TooLong, BadByte}
 use Rattle.script.specs.declared.Script.{Script}
 use Rattle.script.specs.declared.Script.TheVariants.{Refused}
-use borrow.Author.Rules.{rules}
 use Rattle.script.proofs.parse_script.Goals as goal
 
 -- ---- the answer, test by test

@@ -1,8 +1,6 @@
-use native.Mathlib.Omega.{arith}
-use mathlib.Core.Path.{◌≡◌, sym, ◌∙◌}
-use Prim.Native.Nat.{ℕ, ◌+◌, ◌-◌}
+use Prim.Native.Nat.{◌+◌, ◌-◌}
 use lib.ListN.{length}
-use Rattle.script.proofs.Reading.{Reading, starts, as_long, line_fits, ends_after, ends_in, end_fits, nearer, roomy, stops, goes_on, answers, all_written}
+use Rattle.script.proofs.Reading.{Reading}
 use Rattle.script.proofs.read_lines.Given as goal
 
 abbrev pub invariant-loop-at : goal.invariant-loop-at

@@ -92,7 +92,7 @@ loop-again c =
     let t =
     laid_two a.out.now a.from (events_text (take s.loop-i.i es)) (event_text (event_at a.events.now s.loop-i.i))
     (omega (arith, room s, s.requires))
-    s.loop-i.at p.result s.loop-i.out p.new.0 s.loop-i.invariant.1 s.loop-i.invariant.2 p.ensures.0 p.ensures.1 in
+    s.loop-i.at p.result s.loop-i.out p.new.out s.loop-i.invariant.1 s.loop-i.invariant.2 p.ensures.0 p.ensures.1 in
     let e = text_more a.events.now a.count s.requires.0 s.loop-i.i h in
     (omega arith, rw e t.0, rw e t.1)
 

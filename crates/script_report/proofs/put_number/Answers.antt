@@ -1,5 +1,4 @@
 -- `script_report::put_number` meets its contract: no number has more than 20 digits, so there is room for it. Assumes nothing.
-use borrow.Author.Rules.{rules}
 use borrow.Author.Tests.{le-leb}
 use native.Mathlib.Omega.{arith}
 use mathlib.Core.List.{List}
@@ -31,7 +30,7 @@ the_same : {m n : ℕ} → Upto m ≡ Upto n → m ≡ n
 the_same e = cc
 
 pub returns-in_default : goal.returns-in_default
-returns-in_default c = let told = absurd (never (sym c.in_default.is ∙ (c.write.ensures.answer ∙ is_written c.args.n c.args.out.now c.args.at c.requires))) in record { place = told.0; bytes = told.1 }
+returns-in_default c = absurd (never (sym c.in_default.is ∙ (c.write.ensures.answer ∙ is_written c.args.n c.args.out.now c.args.at c.requires)))
 
 pub returns : goal.returns
 returns c = record { place = the_same (sym c.in-Upto.is ∙ (c.write.ensures.answer ∙ is_written c.args.n c.args.out.now c.args.at c.requires)); bytes = c.write.ensures.bytes ∙ is_laid c.args.n c.args.out.now c.args.at c.requires }

@@ -14,7 +14,6 @@ use Rattle.script.specs.declared.line.Refusal.TheVariants.{TooLong, BadByte, One
 use Rattle.script_report.specs.Report.{number_line, why_key, byte_key, reason_text}
 use Rattle.script_report.proofs.Laying.{laid_two}
 use Rattle.script_report.proofs.Lengths.{decimal_most, number_line_lem}
-use borrow.Author.Rules.{rules}
 use Rattle.script_report.proofs.put_reason.Goals as goal
 
 why_some : (y : Why) → why_number y ≡ 0 → ⊥
@@ -57,17 +56,18 @@ module _ (r : Refusal) (why : ℕ) (out : List ℕ) (at : ℕ) (is-why : why ≡
       (laid_two out at (number_line why_key why) (number_line byte_key byte) (omega (arith, number_line_lem why_key why, decimal_most why)) p q o u a b d e)
 
 pub returns-then-why-eq0 : goal.returns-then-why-eq0
-returns-then-why-eq0 c = let a = c.args in let told = without a.refusal c.refusal_why-why.result a.out.now a.at c.refusal_why-why.ensures c.if-why-eq0.true in record { place = told.0; bytes = told.1 }
+returns-then-why-eq0 c = let a = c.args in record { place = (without a.refusal c.refusal_why-why.result a.out.now a.at c.refusal_why-why.ensures c.if-why-eq0.true).0; bytes = (without a.refusal c.refusal_why-why.result a.out.now a.at c.refusal_why-why.ensures c.if-why-eq0.true).1 }
 
--- left: slice-aggregate-put-number-line : tie.Need-slice-aggregate-put-number-line
--- slice-aggregate-put-number-line c =  search rules
--- left: slice-aggregate-put-number-line-2 : tie.Need-slice-aggregate-put-number-line-2
--- slice-aggregate-put-number-line-2 c =  search rules
 pub put_number_line-requires : goal.put_number_line-requires
 put_number_line-requires c = let n = c.refusal_why-why.result in
-    omega (arith, c.put_number_line-second.ensures.place, c.put_number_line-second.auto.0, number_line_lem why_key n, decimal_most n, c.requires)
+    omega (arith, c.put_number_line-second.ensures.place, c.put_number_line-second.auto.out, number_line_lem why_key n, decimal_most n, c.requires)
 
 pub returns : goal.returns
-returns c = let told = spoken c.args.refusal c.refusal_why-why.result c.args.out.now c.args.at c.refusal_why-why.ensures c.if-why-eq0.false c.requires
-    c.refusal_byte.result c.put_number_line-second.result c.put_number_line.result c.put_number_line-second.new.out c.put_number_line.new.out
-    c.refusal_byte.ensures c.put_number_line-second.ensures.place c.put_number_line-second.ensures.bytes c.put_number_line.ensures.place c.put_number_line.ensures.bytes in record { place = told.0; bytes = told.1 }
+returns c = record {
+  place = (spoken c.args.refusal c.refusal_why-why.result c.args.out.now c.args.at c.refusal_why-why.ensures c.if-why-eq0.false c.requires
+      c.refusal_byte.result c.put_number_line-second.result c.put_number_line.result c.put_number_line-second.new.out c.put_number_line.new.out
+      c.refusal_byte.ensures c.put_number_line-second.ensures.place c.put_number_line-second.ensures.bytes c.put_number_line.ensures.place c.put_number_line.ensures.bytes).0;
+  bytes = (spoken c.args.refusal c.refusal_why-why.result c.args.out.now c.args.at c.refusal_why-why.ensures c.if-why-eq0.false c.requires
+      c.refusal_byte.result c.put_number_line-second.result c.put_number_line.result c.put_number_line-second.new.out c.put_number_line.new.out
+      c.refusal_byte.ensures c.put_number_line-second.ensures.place c.put_number_line-second.ensures.bytes c.put_number_line.ensures.place c.put_number_line.ensures.bytes).1;
+}

@@ -1,6 +1,5 @@
 -- `script_stray::after` meets its contract: one case for each spot. Assumes nothing.
 use Rattle.script_stray.specs.Walk.{spot_after}
-use borrow.Author.Rules.{rules}
 use Rattle.script_stray.proofs.after.Goals as goal
 
 pub returns-in-Words : goal.returns-in-Words

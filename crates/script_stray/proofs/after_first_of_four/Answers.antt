@@ -1,5 +1,5 @@
 -- `script_stray::after_first_of_four` meets its contract: the rows of the table from 0xF0 on. Assumes nothing.
-use mathlib.Core.Path.{◌≡◌, sym, ap}
+use mathlib.Core.Path.{sym, ap}
 use native.Mathlib.Omega.{arith}
 use Rattle.script_stray.specs.Walk.{spot_of}
 use Rattle.script_utf8.proofs.Exact.{at_f0, at_f1, at_f4, at_none_high}

@@ -1,14 +1,11 @@
 -- `script_stray::after_inside` meets its contract. Assumes nothing.
-use borrow.Author.Tests.{le-leb, lt-leb}
-use mathlib.Core.Bool.{true, false}
 use mathlib.Core.Path.{◌≡◌, refl}
 use Prim.Native.Nat.{ℕ, zero, suc, ◌-◌, ◌≤◌, ◌<◌}
 use native.Mathlib.Omega.{arith}
-use Rattle.script_utf8.specs.Utf8.{in_range, after_this}
+use Rattle.script_utf8.specs.Utf8.{after_this}
 use Rattle.script_stray.specs.Walk.{spot_after}
 use Rattle.script_stray.specs.declared.Spot.TheVariants.{Between, Inside, Astray}
 use Rattle.script_utf8.proofs.Exact.{in_range_lem, above_range, below_range}
-use borrow.Author.Rules.{rules}
 use Rattle.script_stray.proofs.after_inside.Goals as goal
 
 module _ (k lo hi b : ℕ) where

@@ -1,22 +1,19 @@
 -- `script_stray::ascii` meets its contract. The loop's invariant: as long as what was gathered is below 128, the text has a byte over 127 exactly
 -- if what is left has. Assumes nothing.
-use borrow.Author.Tests.{ltb-true, lt-ltb, le-ltb}
+use borrow.Author.Tests.{ltb-true, le-ltb}
 use native.Mathlib.Numerals.{add-one}
 use native.Mathlib.Omega.{arith}
-use mathlib.Core.Bool.{Bool, true, false, ◌||◌}
-use mathlib.Core.List.{List, [], ◌∷◌}
-use mathlib.Core.Path.{◌≡◌, refl, sym, ap, ◌∙◌}
-use Prim.Native.Nat.{ℕ, suc, ◌+◌, ◌-◌, ◌≤◌, ◌<◌}
+use mathlib.Core.Bool.{true, false, ◌||◌}
+use mathlib.Core.List.{List}
+use mathlib.Core.Path.{◌≡◌, refl, ap, ◌∙◌}
+use Prim.Native.Nat.{ℕ, suc, ◌+◌, ◌≤◌, ◌<◌}
 use lib.Bits.{bit_or, or_add_and, and_le_l, and_le_r}
 use lib.Dec.{ltb}
 use lib.ListN.{length, drop, get_or, drop_of_length-le}
 use lib.Seq.{drop-cons}
 use Rattle.script_stray.specs.Stray.{has_over}
+use Rattle.script_stray.proofs.ascii.Invariants.{Gathered}
 use Rattle.script_stray.proofs.ascii.Goals as goal
-
--- of the bytes passed none is over 127 if `g` is not, and the rest is still to come
-abbrev Gathered : List ℕ → ℕ → ℕ → Type 0
-Gathered text g i = g < 128 → has_over text ≡ has_over (drop i text)
 
 module _ (text : List ℕ) (g i : ℕ) (inv : Gathered text g i) where
   gather_on : i < length text → Gathered text (bit_or g (get_or text i 0)) (i + 1)

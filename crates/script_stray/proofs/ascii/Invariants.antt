@@ -1,16 +1,13 @@
-use borrow.Author.Tests.{ltb-true, lt-ltb, le-ltb}
-use native.Mathlib.Numerals.{add-one}
-use native.Mathlib.Omega.{arith}
-use mathlib.Core.Bool.{Bool, true, false, ◌||◌}
-use mathlib.Core.List.{List, [], ◌∷◌}
-use mathlib.Core.Path.{◌≡◌, refl, sym, ap, ◌∙◌}
-use Prim.Native.Nat.{ℕ, suc, ◌+◌, ◌-◌, ◌≤◌, ◌<◌}
-use lib.Bits.{bit_or, or_add_and, and_le_l, and_le_r}
-use lib.Dec.{ltb}
-use lib.ListN.{length, drop, get_or, drop_of_length-le}
-use lib.Seq.{drop-cons}
+use mathlib.Core.List.{List}
+use mathlib.Core.Path.{◌≡◌}
+use Prim.Native.Nat.{ℕ, ◌-◌, ◌≤◌, ◌<◌}
+use lib.ListN.{length, drop}
 use Rattle.script_stray.specs.Stray.{has_over}
 use Rattle.script_stray.proofs.ascii.Given as goal
+
+-- of the bytes passed none is over 127 if `g` is not, and the rest is still to come
+abbrev pub Gathered : List ℕ → ℕ → ℕ → Type 0
+Gathered text g i = g < 128 → has_over text ≡ has_over (drop i text)
 
 abbrev pub invariant-loop-i : goal.invariant-loop-i
 invariant-loop-i l = (l.i ≤ length l.text) × Gathered l.text l.gathered l.i

@@ -1,6 +1,5 @@
 -- `script_stray::comment_end` meets its contract. Assumes nothing.
-use mathlib.Core.Path.{◌≡◌, sym, ◌∙◌}
-use borrow.Author.Rules.{rules}
+use mathlib.Core.Path.{sym, ◌∙◌}
 use Rattle.script_stray.proofs.comment_end.Goals as goal
 
 pub returns : goal.returns

@@ -1,6 +1,5 @@
 -- `script_stray::ends` meets its contract: one case for each spot. Assumes nothing.
 use Rattle.script_stray.specs.Walk.{spot_ends}
-use borrow.Author.Rules.{rules}
 use Rattle.script_stray.proofs.ends.Goals as goal
 
 pub returns-in-Words : goal.returns-in-Words

@@ -1,23 +1,19 @@
 -- `script_stray::has_feed` meets its contract. The loop's invariant: as long as none was met, the first line feed is behind the bytes looked at.
 -- Assumes nothing.
 use borrow.Author.Tests.{eqb-false, ne_eqb}
-use native.Mathlib.Numerals.{add-one}
 use native.Mathlib.Omega.{arith}
-use mathlib.Core.Bool.{Bool, true, false, cond, ◌||◌}
-use mathlib.Core.List.{List, ◌∷◌}
-use mathlib.Core.Path.{◌≡◌, refl, sym, ap, ◌∙◌}
-use Prim.Native.Nat.{ℕ, suc, ◌+◌, ◌-◌, ◌≤◌, ◌<◌}
+use mathlib.Core.Bool.{Bool, ◌||◌}
+use mathlib.Core.List.{List}
+use mathlib.Core.Path.{◌≡◌, sym, ◌∙◌}
+use Prim.Native.Nat.{ℕ, suc, ◌+◌, ◌≤◌, ◌<◌}
 use lib.Dec.{eqb}
 use lib.ListN.{length, drop, get_or}
 use lib.Seq.{drop-cons}
 use Rattle.script_words.specs.Words.{until}
 use Rattle.script_stray.specs.Walk.{block_bytes}
 use Rattle.script_stray.proofs.Walking.{neither}
+use Rattle.script_stray.proofs.has_feed.Invariants.{Behind}
 use Rattle.script_stray.proofs.has_feed.Goals as goal
-
--- no line feed among the first k bytes
-abbrev Behind : List ℕ → ℕ → Bool → ℕ → Type 0
-Behind text from hit k = hit ≡ false → until (eqb 10) (drop from text) ≡ k + until (eqb 10) (drop (from + k) text)
 
 one_more : (text : List ℕ) (from : ℕ) (hit : Bool) (k : ℕ) → from + k < length text → Behind text from hit k
     → Behind text from (hit || eqb (get_or text (from + k) 0) 10) (k + 1)

@@ -1,17 +1,14 @@
 -- `script_stray::near_feed` meets its contract. The loop's invariant: no line feed stands before the place reached. Assumes nothing.
 use native.Mathlib.Omega.{arith}
-use mathlib.Core.Bool.{false}
 use mathlib.Core.List.{List}
 use mathlib.Core.Path.{◌≡◌, refl}
-use Prim.Native.Nat.{ℕ, ◌+◌, ◌-◌, ◌≤◌}
+use Prim.Native.Nat.{ℕ, ◌+◌}
 use lib.Dec.{eqb}
-use lib.ListN.{length, drop}
+use lib.ListN.{drop}
 use Rattle.script_words.specs.Words.{until}
 use Rattle.script_stray.specs.Walk.{block_bytes}
+use Rattle.script_stray.proofs.near_feed.Invariants.{Reached}
 use Rattle.script_stray.proofs.near_feed.Goals as goal
-
-abbrev Reached : List ℕ → ℕ → ℕ → Type 0
-Reached text from i = from + until (eqb 10) (drop from text) ≡ i + until (eqb 10) (drop i text)
 
 further : (text : List ℕ) (from i : ℕ) → Reached text from i
     → until (eqb 10) (drop i text) ≡ block_bytes + until (eqb 10) (drop (i + block_bytes) text) → Reached text from (i + block_bytes)

@@ -1,9 +1,8 @@
 -- `script_stray::stray_line` meets its contract: a text without a byte over 127 has no stray line, nor has one that is UTF-8 with plain words; any
 -- other is walked over. Assumes nothing.
-use mathlib.Core.Path.{◌≡◌, sym, ◌∙◌}
+use mathlib.Core.Path.{sym, ◌∙◌}
 use Rattle.script_stray.proofs.Walking.{plain_is_fine}
 use Rattle.script_stray.proofs.Sure.{sure_is_fine}
-use borrow.Author.Rules.{rules}
 use Rattle.script_stray.proofs.stray_line.Goals as goal
 
 pub returns-then-ascii : goal.returns-then-ascii

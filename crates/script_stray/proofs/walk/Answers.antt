@@ -5,9 +5,8 @@ use native.Mathlib.Numerals.{add-one}
 use native.Mathlib.Omega.{arith}
 use mathlib.Core.Bool.{Bool, true, false, not, false≢true}
 use mathlib.Core.List.{List, ◌∷◌}
-use mathlib.Core.Logic.{⊎_elim}
-use mathlib.Core.Path.{◌≡◌, refl, sym}
-use Prim.Native.Nat.{ℕ, ◌+◌, ◌-◌, ◌≤◌, ◌<◌}
+use mathlib.Core.Path.{◌≡◌, sym, ap}
+use Prim.Native.Nat.{ℕ, ◌+◌, ◌≤◌, ◌<◌}
 use lib.ListN.{length, drop, get_or, drop_of_length-le}
 use lib.Seq.{drop-cons}
 use Rattle.script_stray.specs.Stray.{stray_line}
@@ -15,11 +14,9 @@ use Rattle.script_stray.specs.Walk.{spot_after, spot_ends, stray_from}
 use Rattle.script_stray.specs.declared.Spot.{Spot}
 use Rattle.script_stray.specs.declared.Spot.TheVariants.{Words}
 use Rattle.script_stray.proofs.Walking.{walk_finds}
+use Rattle.script_stray.proofs.walk.Invariants.{Left}
 use Rattle.script_stray.proofs.walk.Goals as goal
-
--- the first stray line seen from a spot of line n at place i
-abbrev Left : List ℕ → ℕ → Spot → ℕ → Type 0
-Left text n spot i = stray_line text ≡ stray_from n spot (drop i text)
+use Rattle.script_stray.proofs.walk.Goals.{then-b-eq-LINE_FEED+else-not-ends, else-b-eq-LINE_FEED}
 
 module _ (text : List ℕ) (n : ℕ) (spot : Spot) (i : ℕ) (h : i < length text) (w : Left text n spot i) where
   here : drop i text ≡ get_or text i 0 ∷ drop (i + 1) text
@@ -56,7 +53,7 @@ bounds-text-i c = omega arith
 
 pub returns-then-not-ends : goal.returns-then-not-ends
 returns-then-not-ends c = no_end c.args.text.now c.loop-i.number c.loop-i.spot c.loop-i.i c.loop-i-test.true
-    c.loop-i.invariant.2 c.if-b-eq-LINE_FEED.true c.ends.result c.ends.ensures c.if-not-ends.true
+    c.loop-i.invariant.2 c.if-b-eq-LINE_FEED.true c.ends.result c.ends.ensures (ap not c.if-not-ends.true)
 
 pub overflow_add-number : goal.overflow_add-number
 overflow_add-number c = omega arith
@@ -68,20 +65,22 @@ pub loop-i-smaller : goal.loop-i-smaller
 loop-i-smaller c = omega arith
 
 pub loop-i-preserved : goal.loop-i-preserved
-loop-i-preserved c = let t = c.args.text.now in
+loop-i-preserved c =
+    let t = c.args.text.now in
+    let l = c.loop-i in
     let h = c.loop-i-test.true in
-    ⊎_elim
-    (λ w. (
-      omega arith,
-      omega (arith, c.loop-i.invariant.1, w.3),
-      rw (w.3, w.4) (next_line t c.loop-i.number c.loop-i.spot c.loop-i.i h c.loop-i.invariant.2 w.0.taken w.1.result w.1.ensures w.2.left),
-    ))
-    (λ w. (
-      omega arith,
-      omega (arith, c.loop-i.invariant.1, w.2),
-      rw (w.2, w.3, w.1.ensures) (same_line t c.loop-i.number c.loop-i.spot c.loop-i.i h c.loop-i.invariant.2 w.0.left),
-    ))
-    c.if-b-eq-LINE_FEED.branch
+    elim c.if-b-eq-LINE_FEED.branch [
+      | then-b-eq-LINE_FEED+else-not-ends w ↦ (
+        omega arith,
+        omega (arith, l.invariant.1, w.number-is),
+        rw (w.number-is, w.spot-is) (next_line t l.number l.spot l.i h l.invariant.2 w.if-b-eq-LINE_FEED.true w.ends.result w.ends.ensures (ap not w.if-not-ends.false)),
+      )
+      | else-b-eq-LINE_FEED w ↦ (
+        omega arith,
+        omega (arith, l.invariant.1, w.number-is),
+        rw (w.number-is, w.spot-is, w.after-spot.ensures) (same_line t l.number l.spot l.i h l.invariant.2 w.if-b-eq-LINE_FEED.false),
+      )
+    ]
 
 pub returns-then-ends : goal.returns-then-ends
 returns-then-ends c = fine c.args.text.now c.loop-i.number c.loop-i.spot c.loop-i.i c.loop-i-test.false c.loop-i.invariant.2

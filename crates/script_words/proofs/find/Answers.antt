@@ -2,10 +2,9 @@
 use borrow.Author.Tests.{eq-eqb, ne_eqb}
 use native.Mathlib.Omega.{arith}
 use mathlib.Core.Path.{refl, sym}
-use Prim.Native.Nat.{◌-◌}
 use lib.Dec.{eqb}
-use lib.ListN.{length, get_or}
-use Rattle.script_words.proofs.Walk.{Walked, walk_on, walk_stops, walk_ends}
+use lib.ListN.{get_or}
+use Rattle.script_words.proofs.Walk.{walk_on, walk_stops, walk_ends}
 use Rattle.script_words.proofs.find.Goals as goal
 
 pub loop-i-init : goal.loop-i-init

@@ -1,10 +1,7 @@
-use borrow.Author.Tests.{eq-eqb, ne_eqb}
-use native.Mathlib.Omega.{arith}
-use mathlib.Core.Path.{refl, sym}
 use Prim.Native.Nat.{◌-◌}
 use lib.Dec.{eqb}
-use lib.ListN.{length, get_or}
-use Rattle.script_words.proofs.Walk.{Walked, walk_on, walk_stops, walk_ends}
+use lib.ListN.{length}
+use Rattle.script_words.proofs.Walk.{Walked}
 use Rattle.script_words.proofs.find.Given as goal
 
 abbrev pub invariant-loop-i : goal.invariant-loop-i

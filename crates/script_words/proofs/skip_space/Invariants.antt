@@ -1,10 +1,7 @@
-use native.Mathlib.Omega.{arith}
-use mathlib.Core.Bool.{not}
-use mathlib.Core.Path.{refl, sym, ap, ◌∙◌}
 use Prim.Native.Nat.{◌-◌}
 use lib.ListN.{length}
 use Rattle.script_words.specs.Words.{not_space}
-use Rattle.script_words.proofs.Walk.{Walked, walk_on, walk_stops, walk_ends}
+use Rattle.script_words.proofs.Walk.{Walked}
 use Rattle.script_words.proofs.skip_space.Given as goal
 
 abbrev pub invariant-loop-i : goal.invariant-loop-i

@@ -1,10 +1,8 @@
 -- `script_words::skip_word` meets its contract, by the walk to the first white space. Assumes nothing.
 use native.Mathlib.Omega.{arith}
 use mathlib.Core.Path.{refl, sym, ◌∙◌}
-use Prim.Native.Nat.{◌-◌}
-use lib.ListN.{length}
 use Rattle.script_words.specs.Words.{is_space, not_space}
-use Rattle.script_words.proofs.Walk.{Walked, walk_on, walk_stops, walk_ends}
+use Rattle.script_words.proofs.Walk.{walk_on, walk_stops, walk_ends}
 use Rattle.script_words.proofs.skip_word.Goals as goal
 
 pub loop-i-init : goal.loop-i-init

@@ -1,6 +1,6 @@
 -- `script::fault::fault_of` meets its contract: the names are tried in the definition's order. Assumes nothing.
 use mathlib.Core.Bool.{true, false}
-use mathlib.Core.Path.{◌≡◌, refl, sym, ◌∙◌}
+use mathlib.Core.Path.{◌≡◌, sym, ◌∙◌}
 use Rattle.script.specs.Faults.{same, crash, restart, reboot, partition, heal, heal_all, named_by}
 use Rattle.script.proofs.fault.fault_of.Goals as goal
 

@@ -1,6 +1,5 @@
 -- `script::line::parse_line` meets its contract: what stands before the comment has the same words when it is not stripped.
 -- Assumes nothing.
-use borrow.Author.Rules.{rules}
 use native.Mathlib.Omega.{arith}
 use mathlib.Core.List.{List}
 use mathlib.Core.Path.{◌≡◌, sym, ◌∙◌}
@@ -25,4 +24,4 @@ slice_bounds-parse_words-end c = let l = c.args.line.now in
     sym (length-take-le c.find-end.result l (omega (arith, until_within (eqb 35) l, c.find-end.ensures)))
 
 pub returns : goal.returns
-returns c = c.parse_words.ensures ∙ cut_says c.args.line.now c.find.result c.find.ensures
+returns c = c.parse_words.ensures ∙ cut_says c.args.line.now c.find-end.result c.find-end.ensures
