@@ -1,11 +1,11 @@
 -- A change of options test by test, and what it does to the head and the words: what the plain form's does. Assumes nothing.
-use mathlib.Core.Path.{◌≡◌, sym, ◌∙◌}
+use mathlib.Core.Path.{◌≡◌, sym}
 use mathlib.Core.List.{List, []}
 use mathlib.Core.Bool.{true, false}
 use Prim.Native.Nat.{ℕ}
 use lib.ListN.{length}
 use Rattle.nights.specs.Net.{choose, set_options}
-use Rattle.nights.specs.Tests.{Answer, refused, verdict, tests, option_tests}
+use Rattle.nights.specs.Tests.{refused, verdict, tests, option_tests}
 use Rattle.network_queue.specs.Packed.{array_size, packed}
 use Rattle.network_queue.proofs.Inserting.{length-recs}
 use Rattle.network_options.specs.declared.NetworkOptions.{NetworkOptions}

@@ -6,7 +6,6 @@ use mathlib.Core.List.{List, [], ◌∷◌}
 use native.Mathlib.Omega.{arith}
 use borrow.Author.Tests.{le-leb, lt-leb}
 use lib.Dec.{leb}
-use denote.Floats.{passes}
 use Rattle.basis.proofs.Laws.{both}
 use Rattle.chance.specs.Probability.{good_word}
 use Rattle.nights.specs.Net.{Options, last_kind, good_options}

@@ -3,7 +3,7 @@ use mathlib.Core.Path.{◌≡◌, sym}
 use mathlib.Core.Bool.{false}
 use Prim.Native.Nat.{ℕ, ◌+◌, ◌≤◌, ◌<◌}
 use borrow.Author.Tests.{le-leb, lt-leb, eq-eqb, ne_eqb}
-use lib.Dec.{leb, eqb}
+use lib.Dec.{leb}
 use Rattle.nights.specs.Net.{capacity, sent_limit, good_counts}
 use Rattle.nights.proofs.Failing.{first, second}
 

@@ -1,7 +1,7 @@
 -- The maps between a head with its words and the plain form. On well-formed ones each is the other's inverse. Assumes nothing.
 use mathlib.Core.Path.{◌≡◌}
 use mathlib.Core.List.{List}
-use mathlib.Core.Bool.{Bool, true}
+use mathlib.Core.Bool.{true}
 use Prim.Native.Nat.{ℕ, ◌*◌, ◌≤◌}
 use borrow.Author.Tests.{leb-true, le-leb}
 use denote.Floats.{passes}

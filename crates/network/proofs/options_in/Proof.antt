@@ -2,7 +2,6 @@ use Rattle.network.proofs.options_in.Statement.{statement}
 use Rattle.network.proofs.options_in.Tie as tie
 use mathlib.Core.Path.{◌≡◌, sym, ap, ◌∙◌}
 use mathlib.Core.Bool.{true}
-use borrow.Author.Tests.{not-true, not-false}
 use denote.Floats.{passes}
 use Rattle.nights.specs.Net.{choose, effect}
 use Rattle.network_options.specs.Options.{plain_options}
@@ -19,7 +18,7 @@ held : (c : tie.Start) → Held c.args.options
 held c = record { loss = passes _ c.well_formed.1.1.0.1.1.0.1; replay = passes _ c.well_formed.1.1.0.1.1.1.0.1 }
 
 formed : (c : tie.Else-not-formed) → let a = c.args in formed_in a.head a.w.now ≡ true
-formed c = sym c.formed.ensures ∙ not-false _ c.if-not-formed.false
+formed c = sym c.formed.ensures ∙ c.if-not-formed.false
 
 -- what was validated is the answer
 answered : (c : tie.After-validate-answer) → let a = c.args in
@@ -35,7 +34,7 @@ returns : tie.Need-returns-then-not-formed
 returns c =
     let a = c.args in
     unchosen a.head a.w.now a.options 23
-    (choose_ill a.head a.w.now a.options (sym c.formed.ensures ∙ not-true _ c.if-not-formed.true))
+    (choose_ill a.head a.w.now a.options (sym c.formed.ensures ∙ c.if-not-formed.true))
 
 validate-requires : tie.Need-validate-answer-requires
 validate-requires c κs = search rules
@@ -49,11 +48,11 @@ enum-told-2 c = search rules
 returns-2 : tie.Need-returns-in-Done
 unfolding effect
 returns-2 c =
-    let v = c.before.before in
+    let v = c.before in
     let b = v.before.before.before in
     let a = b.args in
     let f = formed v.before in
-    let e = sym (answered v) ∙ ap settled_of c.enum_told-1.given.1 in (
+    let e = sym (answered v) ∙ ap settled_of c.in-Done.is in (
       chosen_head a.head a.w.now a.options f (held b) ∙ head_follows a.head a.w.now (choose (plain_options a.options)) e,
       (
         chosen_words a.head a.w.now a.options f b.requires ∙ records_follow a.head a.w.now (choose (plain_options a.options)) e,
@@ -63,9 +62,9 @@ returns-2 c =
 
 returns-3 : tie.Need-returns-in_default
 returns-3 c =
-    let v = c.before.before in
+    let v = c.before in
     let a = v.args in
-    let u = unchosen a.head a.w.now a.options _ (sym (answered v) ∙ ap settled_of c.enum_told-in_default-1.given.1) in
+    let u = unchosen a.head a.w.now a.options _ (sym (answered v) ∙ ap settled_of c.in_default.is) in
     (u.0, (u.1.0, answered v))
 
 pub options_in_spec : {M : Type 1} → statement M

@@ -7,7 +7,7 @@ use Rattle.network_drop.proofs.Keeping.{Moved, ended, same_size, cleared}
 
 -- `network_drop::drop_above` meets its contract: what `keep_front` leaves behind the records kept is cleared. Assumes nothing.
 moved : (c : tie.After-keep_front-m) → let a = c.args in
-    Moved a.w.now c.keep_front-m.new.0 a.last c.keep_front-m.result a.n
+    Moved a.w.now c.keep_front-m.new.w a.last c.keep_front-m.result a.n
 moved c = ended _ _ _ _ _ c.keep_front-m.ensures.0 c.keep_front-m.ensures.1
 
 first-above-requires : tie.Need-first_above-from-requires

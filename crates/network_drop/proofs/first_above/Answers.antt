@@ -1,9 +1,6 @@
 -- `network_drop::first_above` meets its contract: each record passed over is numbered at most `last`. Assumes nothing.
-use Prim.Native.Nat.{◌-◌, ◌≤◌}
-use mathlib.Core.Path.{◌≡◌}
 use native.Mathlib.Omega.{arith}
-use Rattle.nights.specs.Record.{recs}
-use Rattle.network_drop.proofs.Keeping.{kept, stay_start, stay_on}
+use Rattle.network_drop.proofs.Keeping.{stay_start, stay_on}
 use Rattle.network_drop.proofs.first_above.Goals as goal
 
 pub loop-i-init : goal.loop-i-init

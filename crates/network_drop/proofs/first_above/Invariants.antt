@@ -1,8 +1,7 @@
 use Prim.Native.Nat.{◌-◌, ◌≤◌}
 use mathlib.Core.Path.{◌≡◌}
-use native.Mathlib.Omega.{arith}
 use Rattle.nights.specs.Record.{recs}
-use Rattle.network_drop.proofs.Keeping.{kept, stay_start, stay_on}
+use Rattle.network_drop.proofs.Keeping.{kept}
 use Rattle.network_drop.proofs.first_above.Given as goal
 
 abbrev pub invariant-loop-i : goal.invariant-loop-i

@@ -1,10 +1,9 @@
 -- `network_drop::keep_front` meets its contract: the walk of `Keeping`. Assumes nothing.
-use Prim.Native.Nat.{◌-◌, ◌≤◌}
 use mathlib.Core.Path.{◌≡◌, ◌∙◌}
-use mathlib.Core.Logic.{⊎_elim}
 use native.Mathlib.Omega.{arith}
-use Rattle.network_drop.proofs.Keeping.{Moved, start, same_size, pass_over, move_up}
+use Rattle.network_drop.proofs.Keeping.{start, same_size, pass_over, move_up}
 use Rattle.network_drop.proofs.keep_front.Goals as goal
+use Rattle.network_drop.proofs.keep_front.Goals.{then-r-last, else-r-last}
 
 pub loop-i-init : goal.loop-i-init
 loop-i-init c = let p = c.requires in (omega arith, start _ _ _ (omega arith) p.3)
@@ -35,10 +34,10 @@ loop-i-smaller c = omega arith
 pub loop-i-preserved : goal.loop-i-preserved
 loop-i-preserved c = let a = c.args in
     let l = c.loop-i in
-    ⊎_elim
-    (λ w. (omega arith, rw (w.3, w.4) (move_up a.w.now l.w a.last l.m l.i l.invariant.1 _ c.record_at-r.ensures _ w.0.taken w.2.ensures)))
-    (λ w. (omega arith, rw (w.1, w.2) (pass_over a.w.now l.w a.last l.m l.i l.invariant.1 _ c.record_at-r.ensures w.0.left)))
-    c.if-r-last.branch
+    elim c.if-r-last.branch [
+      | then-r-last w ↦ (omega arith, rw (w.w-is, w.m-is) (move_up a.w.now l.w a.last l.m l.i l.invariant.1 _ c.record_at-r.ensures _ w.if-r-last.true w.put.ensures))
+      | else-r-last w ↦ (omega arith, rw (w.w-is, w.m-is) (pass_over a.w.now l.w a.last l.m l.i l.invariant.1 _ c.record_at-r.ensures w.if-r-last.false))
+    ]
 
 pub returns : goal.returns
 returns c = let z : c.loop-i.i ≡ c.args.n = omega arith in record { count = rw z at c.loop-i.invariant.1.count; words = rw z at c.loop-i.invariant.1.front }

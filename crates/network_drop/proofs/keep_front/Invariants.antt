@@ -1,8 +1,5 @@
 use Prim.Native.Nat.{◌-◌, ◌≤◌}
-use mathlib.Core.Path.{◌≡◌, ◌∙◌}
-use mathlib.Core.Logic.{⊎_elim}
-use native.Mathlib.Omega.{arith}
-use Rattle.network_drop.proofs.Keeping.{Moved, start, same_size, pass_over, move_up}
+use Rattle.network_drop.proofs.Keeping.{Moved}
 use Rattle.network_drop.proofs.keep_front.Given as goal
 
 abbrev pub invariant-loop-i : goal.invariant-loop-i

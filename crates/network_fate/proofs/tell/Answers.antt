@@ -5,7 +5,6 @@ use Rattle.nights.specs.Tests.{verdict, if_done}
 use Rattle.network_fates.specs.declared.Decision.{Decision}
 use Rattle.network_fates.specs.Answers.{decision_of}
 use Rattle.network_fate.specs.Fates.{told_number, told_words}
-use borrow.Author.Rules.{rules}
 use Rattle.network_fate.proofs.tell.Goals as goal
 
 pub returns-in-Refused : goal.returns-in-Refused

@@ -4,7 +4,6 @@ use lib.ListN.{length}
 use Rattle.nights.specs.Net.{dues}
 use Rattle.network_fates.specs.declared.Decision.{Decision}
 use Rattle.network_fates.specs.Answers.{decision_of}
-use borrow.Author.Rules.{rules}
 use Rattle.network_fates.proofs.copies_by.Goals as goal
 
 pub returns-in-Refused : goal.returns-in-Refused

@@ -1,7 +1,6 @@
 use Rattle.network_fates.proofs.decide.Statement.{statement}
 use Rattle.network_fates.proofs.decide.Tie as tie
 use mathlib.Core.Path.{sym, ◌∙◌}
-use borrow.Author.Tests.{not-true, not-false}
 use denote.Floats.{passes}
 use Rattle.nights.specs.Draws.{after_loss, decided}
 use Rattle.network_options.proofs.OptionForms.{Held, good_chances}
@@ -17,7 +16,7 @@ faulted-requires c κs = search rules
 
 returns : tie.Need-returns-then-not-faulted
 unfolding decided
-returns c = rw (sym c.faulted.ensures ∙ not-true _ c.if-not-faulted.true)
+returns c = rw (sym c.faulted.ensures ∙ c.if-not-faulted.true)
 
 gen-bool-in-send-requires : tie.Need-gen_bool_in_send-requires
 gen-bool-in-send-requires c κs = passes _ (good_chances c.args.options c.requires).0
@@ -36,16 +35,16 @@ enum_told c = search rules
 
 returns-2 : tie.Need-returns-in-Yes
 unfolding after_loss
-returns-2 c = sym (loss_drawn c.args.options (held c.before.before.before.before.before.before.before.before) c.args.now c.args.draws.now c.args.extras.now c.args.kind _ (sym c.faulted.ensures ∙ not-false _ c.if-not-faulted.false) (sym c.gen_bool_in_send.ensures ∙ c.next-1.given.1))
+returns-2 c = sym (loss_drawn c.args.options (held c.before.before.before.before.before.before) c.args.now c.args.draws.now c.args.extras.now c.args.kind _ (sym c.faulted.ensures ∙ c.if-not-faulted.false) (sym c.gen_bool_in_send.ensures ∙ c.in-Yes.is))
 
 returns-3 : tie.Need-returns-in-No
 unfolding after_loss
 returns-3 c =
-    replay_drawn c.args.options (held c.before.before.before.before.before.before.before.before.before) c.args.now c.args.draws.now c.args.extras.now _ _ c.kept.ensures ∙ sym (loss_drawn c.args.options (held c.before.before.before.before.before.before.before.before.before) c.args.now c.args.draws.now c.args.extras.now c.args.kind _ (sym c.faulted.ensures ∙ not-false _ c.if-not-faulted.false) (sym c.gen_bool_in_send.ensures ∙ c.next-in-No-1.given.1))
+    replay_drawn c.args.options (held c.before.before.before.before.before.before.before) c.args.now c.args.draws.now c.args.extras.now _ _ c.kept.ensures ∙ sym (loss_drawn c.args.options (held c.before.before.before.before.before.before.before) c.args.now c.args.draws.now c.args.extras.now c.args.kind _ (sym c.faulted.ensures ∙ c.if-not-faulted.false) (sym c.gen_bool_in_send.ensures ∙ c.in-No.is))
 
 returns-4 : tie.Need-returns-in-Short
 unfolding after_loss
-returns-4 c = sym (loss_drawn c.args.options (held c.before.before.before.before.before.before.before) c.args.now c.args.draws.now c.args.extras.now c.args.kind _ (sym c.faulted.ensures ∙ not-false _ c.if-not-faulted.false) (sym c.gen_bool_in_send.ensures ∙ c.enum_told-1.given.1))
+returns-4 c = sym (loss_drawn c.args.options (held c.before.before.before.before.before.before) c.args.now c.args.draws.now c.args.extras.now c.args.kind _ (sym c.faulted.ensures ∙ c.if-not-faulted.false) (sym c.gen_bool_in_send.ensures ∙ c.in-Short.is))
 
 pub decide_spec : {M : Type 1} → statement M
 decide_spec = tie.close (tie.spec faulted-requires returns gen-bool-in-send-requires enum-known-next enum-known-next-2 kept-requires enum_told returns-2 returns-3 returns-4)

@@ -4,7 +4,6 @@ use native.Mathlib.Omega.{arith}
 use Rattle.nights.specs.Net.{delayed_by}
 use Rattle.network_fates.specs.declared.Decision.{Decision}
 use Rattle.network_fates.specs.Answers.{decision_of}
-use borrow.Author.Rules.{rules}
 use Rattle.network_fates.proofs.delayed_by.Goals as goal
 
 pub overflow_add-result : goal.overflow_add-result

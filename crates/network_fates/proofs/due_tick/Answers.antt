@@ -3,7 +3,6 @@ use Prim.Native.Nat.{◌+◌, ◌^◌}
 use native.Mathlib.Omega.{arith}
 use borrow.Author.Tests.{lt-ltb, le-ltb}
 use Rattle.network_fates.specs.Answers.{tick_from}
-use borrow.Author.Rules.{rules}
 use Rattle.network_fates.proofs.due_tick.Goals as goal
 
 pub returns-then-now-min : goal.returns-then-now-min

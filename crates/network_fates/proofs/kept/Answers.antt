@@ -3,7 +3,6 @@ use mathlib.Core.Path.{sym, ap, ◌∙◌}
 use Rattle.chance.specs.declared.Draw.{Draw}
 use Rattle.nights.specs.Draws.{after_replay}
 use Rattle.network_options.specs.Options.{plain_options}
-use borrow.Author.Rules.{rules}
 use Rattle.network_fates.proofs.kept.Goals as goal
 
 pub returns-in-Yes : goal.returns-in-Yes

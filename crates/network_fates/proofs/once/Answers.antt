@@ -4,7 +4,6 @@ use native.Mathlib.Omega.{arith}
 use Rattle.network_options.specs.Options.{plain_options}
 use Rattle.network_fates.specs.Answers.{tick_of}
 use Rattle.network_fates.proofs.Deciding.{one_short, one_late, one_told}
-use borrow.Author.Rules.{rules}
 use Rattle.network_fates.proofs.once.Goals as goal
 
 pub returns-then-extras-used : goal.returns-then-extras-used

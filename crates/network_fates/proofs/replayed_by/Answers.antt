@@ -3,7 +3,6 @@ use mathlib.Core.Path.{sym, ap}
 use Rattle.nights.specs.Net.{replayed_by}
 use Rattle.network_fates.specs.declared.Decision.{Decision}
 use Rattle.network_fates.specs.Answers.{decision_of}
-use borrow.Author.Rules.{rules}
 use Rattle.network_fates.proofs.replayed_by.Goals as goal
 
 pub returns-in-Refused : goal.returns-in-Refused

@@ -4,7 +4,6 @@ use native.Mathlib.Omega.{arith}
 use Rattle.network_options.specs.Options.{plain_options}
 use Rattle.network_fates.specs.Answers.{tick_of}
 use Rattle.network_fates.proofs.Deciding.{two_short, copy_late, original_late, two_told, one_of_two}
-use borrow.Author.Rules.{rules}
 use Rattle.network_fates.proofs.twice.Goals as goal
 
 pub returns-then-extras-used : goal.returns-then-extras-used

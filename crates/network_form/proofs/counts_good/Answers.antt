@@ -1,7 +1,6 @@
 -- `network_form::counts_good` meets its contract: each early answer is a clause that fails, and no sum wraps. Assumes nothing.
 use native.Mathlib.Omega.{arith}
 use Rattle.network_form.proofs.Clauses.{too_many, too_many_sent, too_many_lost, too_many_replayed, uneven, misnumbered, delays_told}
-use borrow.Author.Rules.{rules}
 use Rattle.network_form.proofs.counts_good.Goals as goal
 
 pub returns-then-pending-gt-CAPACITY : goal.returns-then-pending-gt-CAPACITY

@@ -2,7 +2,6 @@ use Rattle.network_form.proofs.formed.Statement.{statement}
 use Rattle.network_form.proofs.formed.Tie as tie
 use mathlib.Core.Path.{◌≡◌, sym, ◌∙◌}
 use mathlib.Core.Bool.{true}
-use borrow.Author.Tests.{not-true, not-false}
 use Rattle.nights.specs.Net.{good_options}
 use Rattle.nights.proofs.Kept.{counts}
 use Rattle.network_options.specs.Options.{plain_options}
@@ -12,10 +11,10 @@ use borrow.Author.Rules.{rules}
 
 -- `network_form::formed` meets its contract: the options, the counters and the records are the whole. Assumes nothing.
 options_good : (c : tie.Else-not-good) → good_options (plain_options c.args.head.options) ≡ true
-options_good c = sym c.before.good2.ensures ∙ not-false _ c.if-not-good.false
+options_good c = sym c.good.ensures ∙ c.if-not-good.false
 
 counted : (c : tie.Else-not-counts_good) → counts_good c.args.head ≡ true
-counted c = sym c.counts_good.ensures ∙ not-false _ c.if-not-counts_good.false
+counted c = sym c.counts_good.ensures ∙ c.if-not-counts_good.false
 
 good-requires : tie.Need-good-requires
 good-requires c κs = search rules
@@ -23,7 +22,7 @@ good-requires c κs = search rules
 returns : tie.Need-returns-then-not-good
 returns c =
     let a = c.args in
-    options_fail a.head a.w.now (sym c.before.good2.ensures ∙ not-true _ c.if-not-good.true)
+    options_fail a.head a.w.now (sym c.good.ensures ∙ c.if-not-good.true)
 
 counts-good-requires : tie.Need-counts_good-requires
 counts-good-requires c κs = search rules
@@ -31,7 +30,7 @@ counts-good-requires c κs = search rules
 returns-2 : tie.Need-returns-then-not-counts_good
 returns-2 c =
     let a = c.args in
-    counts_fail a.head a.w.now (options_good c.before.before) (sym c.counts_good.ensures ∙ not-true _ c.if-not-counts_good.true)
+    counts_fail a.head a.w.now (options_good c.before.before) (sym c.counts_good.ensures ∙ c.if-not-counts_good.true)
 
 records-good-requires : tie.Need-records_good-requires
 records-good-requires c κs =

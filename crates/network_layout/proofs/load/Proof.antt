@@ -2,7 +2,6 @@ use Rattle.network_layout.proofs.load.Statement.{statement}
 use Rattle.network_layout.proofs.load.Tie as tie
 use mathlib.Core.Path.{◌≡◌, sym, ◌∙◌}
 use mathlib.Core.Bool.{true}
-use borrow.Author.Tests.{not-true, not-false}
 use denote.Floats.{passes}
 use lib.ListN.{get_or}
 use Rattle.chance.specs.Probability.{good_word}
@@ -12,10 +11,10 @@ use borrow.Author.Rules.{rules}
 -- `network_layout::load` meets its contract: the first test that fails leaves no head, and words that pass all are their head's. Assumes nothing.
 -- both probabilities passed
 loss_good : (c : tie.Else-not-good_word) → good_word (get_or c.args.words.now 0 0) ≡ true
-loss_good c = sym c.good_word.ensures ∙ not-false _ c.if-not-good_word.false
+loss_good c = sym c.good_word.ensures ∙ c.if-not-good_word.false
 
 replay_good : (c : tie.Else-not-good_word-2) → good_word (get_or c.args.words.now 1 0) ≡ true
-replay_good c = sym c.good_word-2.ensures ∙ not-false _ c.if-not-good_word-2.false
+replay_good c = sym c.good_word-2.ensures ∙ c.if-not-good_word-2.false
 
 element-copy-out-loss : tie.Need-bounds-words-0
 element-copy-out-loss c = search rules
@@ -27,7 +26,7 @@ no-head-requires : tie.Need-no_head-requires
 no-head-requires c κs = search rules
 
 returns : tie.Need-returns-then-not-good_word
-returns c = c.no_head.ensures ∙ not_loaded _ (no_loss _ (sym c.good_word.ensures ∙ not-true _ c.if-not-good_word.true))
+returns c = c.no_head.ensures ∙ not_loaded _ (no_loss _ (sym c.good_word.ensures ∙ c.if-not-good_word.true))
 
 element-copy-out-replay : tie.Need-bounds-words-1
 element-copy-out-replay c = search rules
@@ -41,7 +40,7 @@ no-head-requires-2 c κs = search rules
 returns-2 : tie.Need-returns-then-not-good_word-2
 returns-2 c =
     c.no_head-then-not-good_word-2.ensures
-    ∙ not_loaded _ (no_replay _ (loss_good c.before.before.before.before) (sym c.good_word-2.ensures ∙ not-true _ c.if-not-good_word-2.true))
+    ∙ not_loaded _ (no_replay _ (loss_good c.before.before.before.before) (sym c.good_word-2.ensures ∙ c.if-not-good_word-2.true))
 
 element-copy-out-flag : tie.Need-bounds-words-4
 element-copy-out-flag c = search rules

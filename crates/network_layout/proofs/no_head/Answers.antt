@@ -1,5 +1,4 @@
 -- `network_layout::no_head` meets its contract. Assumes nothing.
-use borrow.Author.Rules.{rules}
 use Rattle.network_layout.proofs.no_head.Goals as goal
 
 pub returns : goal.returns

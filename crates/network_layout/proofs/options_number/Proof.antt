@@ -3,7 +3,6 @@ use Rattle.network_layout.proofs.options_number.Tie as tie
 use Prim.Native.Nat.{ℕ}
 use mathlib.Core.Path.{◌≡◌, sym, ap, ◌∙◌}
 use mathlib.Core.Bool.{true}
-use borrow.Author.Tests.{not-true, not-false}
 use Rattle.chance.specs.Probability.{good_word}
 use Rattle.nights.specs.Net.{Options}
 use Rattle.network_options.proofs.OptionForms.{loss_fails, replay_fails, delay_fails, all_pass}
@@ -16,16 +15,16 @@ asked c flag = options_from c.args.loss c.args.replay c.args.min c.args.mean fla
 
 -- both probabilities passed
 loss_good : (c : tie.Else-not-good_word) → good_word c.args.loss ≡ true
-loss_good c = sym c.good_word.ensures ∙ not-false _ c.if-not-good_word.false
+loss_good c = sym c.good_word.ensures ∙ c.if-not-good_word.false
 
 replay_good : (c : tie.Else-not-good_word-2) → good_word c.args.replay ≡ true
-replay_good c = sym c.good_word-2.ensures ∙ not-false _ c.if-not-good_word-2.false
+replay_good c = sym c.good_word-2.ensures ∙ c.if-not-good_word-2.false
 
 good-word-requires : tie.Need-good_word-requires
 good-word-requires c κs = search rules
 
 returns : tie.Need-returns-then-not-good_word
-returns c = λ flag. ap answer_code (loss_fails (asked c.before.before flag) (sym c.good_word.ensures ∙ not-true _ c.if-not-good_word.true))
+returns c = λ flag. ap answer_code (loss_fails (asked c.before.before flag) (sym c.good_word.ensures ∙ c.if-not-good_word.true))
 
 good-word-requires-2 : tie.Need-good_word-requires-2
 good-word-requires-2 c κs = search rules
@@ -33,7 +32,7 @@ good-word-requires-2 c κs = search rules
 returns-2 : tie.Need-returns-then-not-good_word-2
 returns-2 c =
     let s = c.before.before.before.before in
-    λ flag. ap answer_code (replay_fails (asked s flag) (loss_good c.before.before) (sym c.good_word-2.ensures ∙ not-true _ c.if-not-good_word-2.true))
+    λ flag. ap answer_code (replay_fails (asked s flag) (loss_good c.before.before) (sym c.good_word-2.ensures ∙ c.if-not-good_word-2.true))
 
 returns-3 : tie.Need-returns-then-mean-min
 returns-3 c =

@@ -1,7 +1,6 @@
 -- `network_layout::store` meets its contract: good options have good probabilities, whose words are theirs. Assumes nothing.
 use denote.Floats.{passes}
 use Rattle.network_options.proofs.OptionForms.{good_chances}
-use borrow.Author.Rules.{rules}
 use Rattle.network_layout.proofs.store.Goals as goal
 
 pub word_of-requires : goal.word_of-requires

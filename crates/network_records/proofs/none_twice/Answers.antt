@@ -1,11 +1,11 @@
 -- `network_records::none_twice` meets its contract: from the last record to the first, each number new or sought. Assumes nothing.
 use Prim.Native.Nat.{ℕ}
 use mathlib.Core.Path.{sym, ◌∙◌}
-use mathlib.Core.Logic.{⊎_elim}
 use native.Mathlib.Omega.{arith}
 use lib.ListN.{length-replicate}
-use Rattle.network_records.proofs.Numbers.{Apart, start, on_unmarked, on_sought, twice, all_apart}
+use Rattle.network_records.proofs.Numbers.{start, on_unmarked, on_sought, twice, all_apart}
 use Rattle.network_records.proofs.none_twice.Goals as goal
+use Rattle.network_records.proofs.none_twice.Goals.{then-marks-m-ne0+else-seq_among, else-marks-m-ne0}
 
 pub loop-i-init : goal.loop-i-init
 loop-i-init c = start c.args.w.now c.args.n _ (length-replicate {A = ℕ} 256 0)
@@ -48,10 +48,10 @@ loop-i-smaller c = omega arith
 pub loop-i-preserved : goal.loop-i-preserved
 loop-i-preserved c = let a = c.args in
     let l = c.loop-i in
-    ⊎_elim
-    (λ u. on_sought a.w.now a.n l.marks l.i l.invariant (omega arith) (sym u.1.ensures ∙ u.2.left))
-    (λ u. on_unmarked a.w.now a.n l.marks l.i l.invariant (omega arith) u.left)
-    c.if-marks-m-ne0.branch
+    elim c.if-marks-m-ne0.branch [
+      | then-marks-m-ne0+else-seq_among u ↦ on_sought a.w.now a.n l.marks l.i l.invariant (omega arith) (sym u.seq_among.ensures ∙ u.if-seq_among.false)
+      | else-marks-m-ne0 u ↦ on_unmarked a.w.now a.n l.marks l.i l.invariant (omega arith) u.if-marks-m-ne0.false
+    ]
 
 pub returns : goal.returns
 returns c = let a = c.args in

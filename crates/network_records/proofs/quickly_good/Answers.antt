@@ -1,13 +1,12 @@
 -- `network_records::quickly_good` meets its contract: the walk of `Gathering`. Assumes nothing.
-use Prim.Native.Nat.{ℕ, ◌-◌, ◌≤◌}
+use Prim.Native.Nat.{ℕ}
 use mathlib.Core.Path.{◌≡◌}
 use mathlib.Core.Bool.{true, false}
 use native.Mathlib.Omega.{arith}
-use borrow.Author.Rules.{rules}
 use borrow.Author.Tests.{eqb-true}
 use lib.ListN.{length-replicate}
 use Rattle.network_queue.specs.Plain.{plain_record}
-use Rattle.network_records.proofs.Gathering.{Gathered, gather_start, gather_on, gather_ends}
+use Rattle.network_records.proofs.Gathering.{gather_start, gather_on, gather_ends}
 use Rattle.network_records.proofs.quickly_good.Goals as goal
 
 -- no says nothing

@@ -1,12 +1,5 @@
-use Prim.Native.Nat.{ℕ, ◌-◌, ◌≤◌}
-use mathlib.Core.Path.{◌≡◌}
-use mathlib.Core.Bool.{true, false}
-use native.Mathlib.Omega.{arith}
-use borrow.Author.Rules.{rules}
-use borrow.Author.Tests.{eqb-true}
-use lib.ListN.{length-replicate}
-use Rattle.network_queue.specs.Plain.{plain_record}
-use Rattle.network_records.proofs.Gathering.{Gathered, gather_start, gather_on, gather_ends}
+use Prim.Native.Nat.{◌-◌, ◌≤◌}
+use Rattle.network_records.proofs.Gathering.{Gathered}
 use Rattle.network_records.proofs.quickly_good.Given as goal
 
 abbrev pub invariant-loop-i : goal.invariant-loop-i

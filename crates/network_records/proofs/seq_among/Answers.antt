@@ -1,8 +1,7 @@
 -- `network_records::seq_among` meets its contract. Assumes nothing.
-use Prim.Native.Nat.{◌-◌, ◌≤◌}
 use mathlib.Core.Path.{refl}
 use native.Mathlib.Omega.{arith}
-use Rattle.network_records.proofs.Numbers.{Sought, seek_on, seek_finds, seek_ends}
+use Rattle.network_records.proofs.Numbers.{seek_on, seek_finds, seek_ends}
 use Rattle.network_records.proofs.seq_among.Goals as goal
 
 pub loop-i-init : goal.loop-i-init

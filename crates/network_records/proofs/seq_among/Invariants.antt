@@ -1,7 +1,5 @@
 use Prim.Native.Nat.{◌-◌, ◌≤◌}
-use mathlib.Core.Path.{refl}
-use native.Mathlib.Omega.{arith}
-use Rattle.network_records.proofs.Numbers.{Sought, seek_on, seek_finds, seek_ends}
+use Rattle.network_records.proofs.Numbers.{Sought}
 use Rattle.network_records.proofs.seq_among.Given as goal
 
 abbrev pub invariant-loop-i : goal.invariant-loop-i

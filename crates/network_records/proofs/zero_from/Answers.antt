@@ -1,9 +1,8 @@
 -- `network_records::zero_from` meets its contract: after each four words, those up to there are gathered. Assumes nothing.
-use Prim.Native.Nat.{◌-◌, ◌≤◌}
 use mathlib.Core.Path.{refl}
 use mathlib.Core.List.{[], ◌∷◌}
 use native.Mathlib.Omega.{arith}
-use Rattle.network_records.proofs.Zeros.{Gathered, gather_start, gather_on, gather_ends}
+use Rattle.network_records.proofs.Zeros.{gather_start, gather_on, gather_ends}
 use Rattle.network_records.proofs.zero_from.Goals as goal
 
 pub overflow_mul-i : goal.overflow_mul-i

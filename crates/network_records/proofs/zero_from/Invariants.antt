@@ -1,8 +1,6 @@
 use Prim.Native.Nat.{◌-◌, ◌≤◌}
-use mathlib.Core.Path.{refl}
 use mathlib.Core.List.{[], ◌∷◌}
-use native.Mathlib.Omega.{arith}
-use Rattle.network_records.proofs.Zeros.{Gathered, gather_start, gather_on, gather_ends}
+use Rattle.network_records.proofs.Zeros.{Gathered}
 use Rattle.network_records.proofs.zero_from.Given as goal
 
 abbrev pub invariant-loop-i : goal.invariant-loop-i

@@ -11,7 +11,6 @@ use Rattle.network_place.proofs.Keeping.{still_rising}
 use Rattle.network_fates.specs.declared.Decision.{Decision}
 use Rattle.network_fates.specs.Answers.{decision_of}
 use Rattle.network_send.specs.Sends.{plain_letter}
-use borrow.Author.Rules.{rules}
 use Rattle.network_send.proofs.queue_copies.Goals as goal
 
 pub insert-requires : goal.insert-requires

@@ -4,7 +4,6 @@ use Rattle.nights.specs.Net.{send}
 use Rattle.network_form.proofs.Calling.{call_ill}
 use Rattle.network_send.specs.Sends.{plain_letter}
 use Rattle.network_send.proofs.Testing.{unsent}
-use borrow.Author.Rules.{rules}
 use Rattle.network_send.proofs.send_in.Goals as goal
 
 pub send_on-requires : goal.send_on-requires

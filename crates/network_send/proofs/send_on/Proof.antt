@@ -58,10 +58,10 @@ told c =
     ∙ sym (ap (λ (t : Sending). t.answer) c.told_by-told.ensures)
 
 -- ---- and once it was accepted
-accepted : (c : tie.In-Accepted) → fate_answer (fate c.before.before.before) ≡ done
-accepted c = told c.before.before ∙ ap (λ (t : SendAnswer). (sent_of t).answer) c.enum_told-1.given.1
+accepted : (c : tie.In-Accepted) → fate_answer (fate c.before.before) ≡ done
+accepted c = told c.before ∙ ap (λ (t : SendAnswer). (sent_of t).answer) c.in-Accepted.is
 
-room : (c : tie.Else-n-copies-gt-CAPACITY) → (start c.before.before.before.before.before).args.head.pending + length (dues (fate c.before.before.before.before.before)) ≤ capacity
+room : (c : tie.Else-n-copies-gt-CAPACITY) → (start c.before.before.before.before).args.head.pending + length (dues (fate c.before.before.before.before)) ≤ capacity
 room c = omega (arith, c.if-n-copies-gt-CAPACITY.false, c.copies_by-copies.ensures)
 
 returns : tie.Need-returns-then-letter-gt-LAST_KIND
@@ -101,11 +101,11 @@ enum-told-2 c = search rules
 
 returns-4 : tie.Need-returns-in_default
 returns-4 c =
-    let d = c.before.before.before in
+    let d = c.before.before in
     let b = start d in
     let a = b.args in
     let r = c.told_by-told.ensures in
-    let t = told c.before.before ∙ ap (λ (t : SendAnswer). (sent_of t).answer) c.enum_told-in_default-1.given.1 in
+    let t = told c.before ∙ ap (λ (t : SendAnswer). (sent_of t).answer) c.in_default.is in
     let e = fate_refuses a.head a.w.now (letter b) a.draws.now a.extras.now b.requires.1 (else1 d).if-letter-gt-LAST_KIND.false (else2 d).if-letter-gt-LAST_SORT.false d.if-head-ge-SENT_LIMIT.false _
     (fated d ∙ refusing_fate (fate d) _ t) in (
       head_stays a.head a.w.now (call b) _ e,
@@ -120,14 +120,14 @@ copies-by-requires c κs = search rules
 
 add-if4 : tie.Need-overflow_add-n
 add-if4 c =
-    let d = c.before.before.before.before in
+    let d = c.before.before.before in
     let n = counted d in
     let g : Few (fate d) = few (fate d) in
     omega (arith, n.small, g.queued, c.copies_by-copies.ensures)
 
 returns-5 : tie.Need-returns-then-n-copies-gt-CAPACITY
 returns-5 c =
-    let d = c.before.before.before.before.before in
+    let d = c.before.before.before.before in
     let b = start d in
     let a = b.args in
     unsent a.head a.w.now (letter b) a.draws.now a.extras.now 29
@@ -136,7 +136,7 @@ returns-5 c =
 
 queue-copies-requires : tie.Need-queue_copies-requires
 queue-copies-requires c κs =
-    let d = c.before.before.before.before.before.before in
+    let d = c.before.before.before.before.before in
     let n = counted d in
     let a = (start d).args in (
       ((start d).requires.0, room c.before, omega (arith, n.few, n.replayed, n.even, n.numbered)),
@@ -148,7 +148,7 @@ add-next c = search rules
 
 add-next-2 : tie.Need-overflow_add-next-2
 add-next-2 c =
-    let d = c.before.before.before.before.before.before.before in
+    let d = c.before.before.before.before.before.before in
     let n = counted d in
     let g : Few (fate d) = few (fate d) in
     omega (arith, n.few, n.replayed, n.even, n.numbered, g.queued, c.copies_by-copies.ensures)
@@ -161,7 +161,7 @@ lost-by-requires c κs = search rules
 
 add-next-4 : tie.Need-overflow_add-next-4
 add-next-4 c =
-    let d = c.before.before.before.before.before.before.before.before.before.before in
+    let d = c.before.before.before.before.before.before.before.before.before in
     let n = counted d in
     let g : Few (fate d) = few (fate d) in
     omega (arith, n.few, n.lost, g.lost, c.lost_by.ensures)
@@ -171,7 +171,7 @@ replayed-by-requires c κs = search rules
 
 add-next-5 : tie.Need-overflow_add-next-5
 add-next-5 c =
-    let d = c.before.before.before.before.before.before.before.before.before.before.before.before in
+    let d = c.before.before.before.before.before.before.before.before.before.before.before in
     let n = counted d in
     let g : Few (fate d) = few (fate d) in
     omega (arith, n.few, n.replayed, g.replayed, c.replayed_by.ensures)
@@ -181,7 +181,7 @@ delayed-by-requires c κs = search rules
 
 add-next-6 : tie.Need-overflow_add-next-6
 add-next-6 c =
-    let d = c.before.before.before.before.before.before.before.before.before.before.before.before.before.before in
+    let d = c.before.before.before.before.before.before.before.before.before.before.before.before.before in
     let n = counted d in
     let g : Few (fate d) = few (fate d) in
     omega (arith, n.few, n.replayed, n.even, n.numbered, n.delayed, g.delayed, c.delayed_by.ensures)
@@ -192,7 +192,7 @@ returns-6 c =
     let q = c.before.before.before.before.before.before.before in
     let l = q.before.before in
     let m = l.before.before in
-    let d = m.before.before.before in
+    let d = m.before.before in
     let b = start d in
     let a = b.args in
     let e = send_well a.head a.w.now (letter b) a.draws.now a.extras.now b.requires.1 (else1 d).if-letter-gt-LAST_KIND.false (else2 d).if-letter-gt-LAST_SORT.false d.if-head-ge-SENT_LIMIT.false

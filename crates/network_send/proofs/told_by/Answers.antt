@@ -4,7 +4,6 @@ use Rattle.nights.specs.Net.{lost_by, replayed_by}
 use Rattle.network_fates.specs.declared.Decision.{Decision}
 use Rattle.network_fates.specs.Answers.{decision_of}
 use Rattle.network_send.specs.Sends.{sending, fate_answer}
-use borrow.Author.Rules.{rules}
 use Rattle.network_send.proofs.told_by.Goals as goal
 
 pub returns-in-Refused : goal.returns-in-Refused

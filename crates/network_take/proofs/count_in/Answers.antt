@@ -1,7 +1,6 @@
 -- `network_take::count_in` meets its contract. Assumes nothing.
 use mathlib.Core.Path.{sym, ◌∙◌}
 use Rattle.network_take.proofs.Listing.{not_counted, is_counted}
-use borrow.Author.Rules.{rules}
 use Rattle.network_take.proofs.count_in.Goals as goal
 
 pub returns-then-formed : goal.returns-then-formed

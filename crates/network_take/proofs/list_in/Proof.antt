@@ -3,7 +3,6 @@ use Rattle.network_take.proofs.list_in.Tie as tie
 use mathlib.Core.Path.{◌≡◌, sym, ◌∙◌}
 use mathlib.Core.Bool.{true}
 use native.Mathlib.Omega.{arith}
-use borrow.Author.Tests.{not-true, not-false}
 use Rattle.network_form.specs.Forms.{formed_in}
 use Rattle.network_form.proofs.Maps.{small}
 use Rattle.network_take.proofs.Listing.{list_ill, list_short, listed}
@@ -11,7 +10,7 @@ use borrow.Author.Rules.{rules}
 
 -- `network_take::list_in` meets its contract: each test in turn, and then the records' own words. Assumes nothing.
 formed : (c : tie.Else-not-formed) → let a = c.args in formed_in a.head a.w.now ≡ true
-formed c = sym c.formed.ensures ∙ not-false _ c.if-not-formed.false
+formed c = sym c.formed.ensures ∙ c.if-not-formed.false
 
 formed-requires : tie.Need-formed-requires
 formed-requires c κs = search rules
@@ -19,7 +18,7 @@ formed-requires c κs = search rules
 returns : tie.Need-returns-then-not-formed
 returns c =
     let a = c.args in
-    list_ill a.head a.w.now a.out.now (sym c.formed.ensures ∙ not-true _ c.if-not-formed.true)
+    list_ill a.head a.w.now a.out.now (sym c.formed.ensures ∙ c.if-not-formed.true)
 
 mul-if2 : tie.Need-overflow_mul-n
 mul-if2 c = let a = c.args in omega (arith, small a.head a.w.now (formed c))

@@ -4,7 +4,6 @@ use lib.ListN.{length}
 use Rattle.nights.specs.Net.{collect}
 use Rattle.network_form.proofs.Calling.{call_ill}
 use Rattle.network_take.proofs.Taking.{untaken}
-use borrow.Author.Rules.{rules}
 use Rattle.network_take.proofs.take_in.Goals as goal
 
 pub take_on-requires : goal.take_on-requires

@@ -23,7 +23,7 @@ held c = record { loss = passes _ c.well_formed.1.0.1.1.0.1.1.0.1; replay = pass
 -- the records that are due are told, and are pending
 told : (c : tie.After-due_front-k) → let a = c.args in c.due_front-k.result ≡ length (due_records a.tick a.head a.w.now)
 told c =
-    let b = c.before.before.before in
+    let b = c.before.before in
     taken_count b.args.head b.args.w.now b.requires.1 b.args.tick _ c.due_front-k.ensures
 
 inside : (c : tie.After-due_front-k) → c.due_front-k.result ≤ c.args.head.pending
@@ -32,21 +32,21 @@ inside c =
     omega (arith, due_in a.tick a.w.now a.head.pending, c.due_front-k.ensures)
 
 due-front-requires : tie.Need-due_front-k-requires
-due-front-requires c κs = let b = c.before.before in small b.args.head b.args.w.now b.requires.1
+due-front-requires c κs = let b = c.before in small b.args.head b.args.w.now b.requires.1
 
 mul-if1 : tie.Need-overflow_mul-k
-mul-if1 c = let b = c.before.before.before in omega (arith, small b.args.head b.args.w.now b.requires.1, inside c)
+mul-if1 c = let b = c.before.before in omega (arith, small b.args.head b.args.w.now b.requires.1, inside c)
 
 returns : tie.Need-returns-then-out-k
 returns c =
-    let b = c.before.before.before.before in
+    let b = c.before.before.before in
     let a = b.args in
     untaken a.head a.w.now a.tick a.out.now 30
     (take_short a.head a.w.now b.requires.1 a.tick (length a.out.now) _ (told c.before) c.if-out-k.true)
 
 take-from-requires : tie.Need-take_from-requires
 take-from-requires c κs =
-    let b = c.before.before.before.before.before.before in
+    let b = c.before.before.before.before.before in
     (b.requires.0, small b.args.head b.args.w.now b.requires.1, c.due_front-k.ensures, c.if-out-k.false)
 
 sub-next : tie.Need-overflow_sub-next
@@ -54,7 +54,7 @@ sub-next c = omega (arith, inside c.before.before.before.before.before.before)
 
 add-next : tie.Need-overflow_add-next
 add-next c =
-    let b = c.before.before.before.before.before.before.before.before.before.before in
+    let b = c.before.before.before.before.before.before.before.before.before in
     let h = b.args.head in
     let n : Counts h.pending h.seq h.sent h.delivered h.lost h.replayed h.delayed = counts h b.args.w.now b.requires.1 in
     omega (arith, inside c.before.before.before.before.before.before.before, n.small, n.few, n.replayed, n.even)

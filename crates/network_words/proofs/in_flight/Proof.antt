@@ -33,11 +33,11 @@ start c = c.before.before.before.before.before.before.before.before
 
 made : (c : tie.After-list_in-listed) → let a = (start c).args in
     (counted_of c.list_in-listed.result ≡ list_tells (length a.out.now) (head_in a.head.now) a.records.now)
-    × (c.list_in-listed.new.1.1.0 ≡ list_gives a.out.now (head_in a.head.now) a.records.now)
+    × (c.list_in-listed.new.out ≡ list_gives a.out.now (head_in a.head.now) a.records.now)
 made c = rw (head_read _ _ (else-of c).load-loaded.ensures (fits (else-of c))) at c.list_in-listed.ensures
 
-accepted : (c : tie.In-Records-2) → inside (start c.before.before.before.before) ≡ done
-accepted c = taken_done _ _ _ (made c.before.before.before.before).0 _ c.listed-in-Records-1.given.1
+accepted : (c : tie.In-Records) → inside (start c.before.before.before) ≡ done
+accepted c = taken_done _ _ _ (made c.before.before.before).0 _ c.in-Records.is
 
 load-requires : tie.Need-load-loaded-requires
 load-requires c κs = search rules
@@ -69,9 +69,9 @@ same_length c = search rules
 returns-2 : tie.Need-returns-in-Refused
 unfolding if_done
 returns-2 c =
-    let x = c.before.before.before.before.before.before in
+    let x = c.before.before.before.before in
     let b = start x in
-    let e = taken_refused _ _ _ (made x).0 _ c.listed-1.given.1 in
+    let e = taken_refused _ _ _ (made x).0 _ c.in-Refused.is in
     let k : Kept (answer b) _ = read_kept _ (inside b) (fits (else-of x)) _ e in
     (c.number_of.ensures ∙ k.number _ _, ((rw e at (made x).1) ∙ k.out _ _, k.told _ _))
 
@@ -81,14 +81,14 @@ same-length-2 c = search rules
 returns-3 : tie.Need-returns-in-Records
 unfolding if_done
 returns-3 c =
-    let y = c.before.before in
-    let x = y.before.before.before.before in
+    let y = c.before in
+    let x = y.before.before.before in
     let b = start x in
     let d : Done (answer b) = read_finished _ (inside b) (fits (else-of x)) (accepted y) in (
       d.number _ _,
       (
         (rw (accepted y) at (made x).1) ∙ d.out _ _,
-        ap (λ (k : ℕ). k ∷ []) (taken_told _ _ _ (made x).0 _ y.listed-in-Records-1.given.1) ∙ d.told _ _,
+        ap (λ (k : ℕ). k ∷ []) (taken_told _ _ _ (made x).0 _ y.in-Records.is) ∙ d.told _ _,
       ),
     )
 

@@ -5,7 +5,7 @@ use mathlib.Core.Bool.{true, false}
 use mathlib.Core.List.{[], ◌∷◌}
 use Prim.Native.Nat.{ℕ}
 use borrow.Author.Tests.{not-true, not-false}
-use Rattle.nights.specs.Tests.{Answer, done}
+use Rattle.nights.specs.Tests.{Answer}
 use Rattle.network_form.specs.Calls.{form_answer}
 use Rattle.network_take.specs.Takes.{counted_of, count_tells}
 use Rattle.network_layout.specs.Layout.{head_fits, head_in, if_head}
@@ -59,18 +59,18 @@ enum-known-counted-2 c = search rules
 
 returns-2 : tie.Need-returns-in-Refused
 returns-2 c =
-    let x = c.before.before.before.before in
+    let x = c.before.before in
     let b = start x in
-    let k : Kept (answer b) _ = read_kept _ (inside b) (fits (else-of x)) _ (taken_refused _ _ _ (made x) _ c.counted-1.given.1) in
+    let k : Kept (answer b) _ = read_kept _ (inside b) (fits (else-of x)) _ (taken_refused _ _ _ (made x) _ c.in-Refused.is) in
     (c.number_of.ensures ∙ k.number _ _, k.told _ _)
 
 returns-3 : tie.Need-returns-in-Records
 returns-3 c =
-    let y = c.before.before in
-    let x = y.before.before in
+    let y = c.before in
+    let x = y.before in
     let b = start x in
-    let d : Done (answer b) = read_finished _ (inside b) (fits (else-of x)) (taken_done _ _ _ (made x) _ y.counted-in-Records-1.given.1) in
-    (d.number _ _, ap (λ (k : ℕ). k ∷ []) (taken_told _ _ _ (made x) _ y.counted-in-Records-1.given.1) ∙ d.told _ _)
+    let d : Done (answer b) = read_finished _ (inside b) (fits (else-of x)) (taken_done _ _ _ (made x) _ y.in-Records.is) in
+    (d.number _ _, ap (λ (k : ℕ). k ∷ []) (taken_told _ _ _ (made x) _ y.in-Records.is) ∙ d.told _ _)
 
 pub pending_spec : {M : Type 1} → statement M
 pending_spec = tie.close (tie.spec load-requires returns whole-requires count-in-requires enum-known-counted number-of-requires enum-known-counted-2 returns-2 returns-3)

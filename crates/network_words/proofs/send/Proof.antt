@@ -39,12 +39,12 @@ start c = c.before.before.before.before.before.before.before.before.before
 
 made : (c : tie.After-send_in-sent) → let a = (start c).args in
     (c.send_in-sent.result.head ≡ head_after (call (start c)) (head_in a.head.now) a.records.now)
-    × ((c.send_in-sent.new.0 ≡ records_after (call (start c)) (head_in a.head.now) a.records.now)
+    × ((c.send_in-sent.new.w ≡ records_after (call (start c)) (head_in a.head.now) a.records.now)
     × (sent_of c.send_in-sent.result.answer ≡ send_tells (plain_letter a.letter) a.draws.now a.extras.now (head_in a.head.now) a.records.now))
 made c = rw (head_read _ _ (else-of c).load-loaded.ensures (fits (else-of c))) at c.send_in-sent.ensures
 
-accepted : (c : tie.In-Accepted-2) → inside (start c.before.before) ≡ done
-accepted c = sent_done _ _ _ (made c.before.before).1.1 _ _ _ _ c.answer-in-Accepted-1.given.1
+accepted : (c : tie.In-Accepted) → inside (start c.before) ≡ done
+accepted c = sent_done _ _ _ (made c.before).1.1 _ _ _ _ c.in-Accepted.is
 
 load-requires : tie.Need-load-loaded-requires
 load-requires c κs = search rules
@@ -72,8 +72,8 @@ enum-known-answer-2 c = search rules
 
 store-requires : tie.Need-store-requires
 store-requires c κs =
-    let x = c.before.before.before.before.before in
-    ap (λ (h : Head). good_options (plain_options h.options)) (made x).0 ∙ stays_good _ _ _ (accepted c.before.before.before)
+    let x = c.before.before.before in
+    ap (λ (h : Head). good_options (plain_options h.options)) (made x).0 ∙ stays_good _ _ _ (accepted c.before.before)
 
 flag-word-requires : tie.Need-flag_word-requires
 flag-word-requires c κs = search rules
@@ -83,16 +83,16 @@ flag-word-requires-2 c κs = search rules
 
 returns-2 : tie.Need-returns-in-Refused
 returns-2 c =
-    let x = c.before.before.before.before in
+    let x = c.before.before in
     let b = start x in
-    let e = sent_refused _ _ _ (made x).1.1 _ c.answer-1.given.1 in
+    let e = sent_refused _ _ _ (made x).1.1 _ c.in-Refused.is in
     let k : Kept (answer b) _ = read_kept _ (inside b) (fits (else-of x)) _ e in
     (c.number_of.ensures ∙ k.number _ _, (k.head _ _, ((made x).1.0 ∙ (sym (records_stay _ _ (call b) _ e) ∙ k.records _ _), k.told _ _)))
 
 returns-3 : tie.Need-returns-in-Accepted
 returns-3 c =
-    let y = c.before.before.before.before.before.before.before in
-    let x = y.before.before in
+    let y = c.before.before.before.before.before.before in
+    let x = y.before in
     let b = start x in
     let d : Done (answer b) = read_finished _ (inside b) (fits (else-of x)) (accepted y) in (
       d.number _ _,
@@ -100,7 +100,7 @@ returns-3 c =
         c.store.ensures ∙ (ap (λ (h : Head). head_words h) (made x).0 ∙ d.head _ _),
         (
           (made x).1.0 ∙ d.records _ _,
-          rw (c.flag_word.ensures.0, c.flag_word-in-Accepted.ensures.0) (sent_told _ _ _ (made x).1.1 _ _ _ _ y.answer-in-Accepted-1.given.1 ∙ d.told _ _),
+          rw (c.flag_word.ensures.0, c.flag_word-in-Accepted.ensures.0) (sent_told _ _ _ (made x).1.1 _ _ _ _ y.in-Accepted.is ∙ d.told _ _),
         ),
       ),
     )

@@ -40,7 +40,7 @@ abbrev start : tie.Else-not-formed → tie.Start
 start c = c.before.before.before.before.before.before.before
 
 formed : (c : tie.Else-not-formed) → formed_in (head_in (start c).args.head.now) (start c).args.records.now ≡ true
-formed c = sym (tested c.before) ∙ not-false _ c.if-not-formed.false
+formed c = sym (tested c.before) ∙ c.if-not-formed.false
 
 -- on a well-formed network the answer is the options'
 judged : (c : tie.Else-not-formed) → answer (start c) ≡ verdict (option_tests (asked (start c)) [])
@@ -77,7 +77,7 @@ returns-2 c =
     let e = c.before.before.before.before in
     let b = e.before.before.before in
     let k : Kept (answer b) 23 =
-    read_kept _ (inside b) (fits e) 23 (call_ill _ _ (choose (asked b)) (sym (tested c.before) ∙ not-true _ c.if-not-formed.true)) in
+    read_kept _ (inside b) (fits e) 23 (call_ill _ _ (choose (asked b)) (sym (tested c.before) ∙ c.if-not-formed.true)) in
     (k.number _ _, k.head _ _)
 
 options-number-requires : tie.Need-options_number-number-requires
@@ -91,20 +91,6 @@ returns-3 c =
 flag-word-requires : tie.Need-flag_word-requires
 flag-word-requires c κs = search rules
 
--- left: array-read-t19 : tie.Need-array-read-t19
--- array-read-t19 c =  search rules
--- left: array-read-t22 : tie.Need-array-read-t22
--- array-read-t22 c =  search rules
--- left: array-read-t25 : tie.Need-array-read-t25
--- array-read-t25 c =  search rules
--- left: array-read-t28 : tie.Need-array-read-t28
--- array-read-t28 c =  search rules
--- left: array-read-t31 : tie.Need-array-read-t31
--- array-read-t31 c =  search rules
--- left: array-read-t34 : tie.Need-array-read-t34
--- array-read-t34 c =  search rules
--- left: array-read-t37 : tie.Need-array-read-t37
--- array-read-t37 c =  search rules
 returns-4 : tie.Need-returns
 returns-4 c =
     let e = c.before.before.before in

@@ -42,13 +42,13 @@ start c = c.before.before.before.before.before.before.before.before.before
 
 made : (c : tie.After-take_in-taken) → let a = (start c).args in
     (c.take_in-taken.result.head ≡ head_after (call (start c)) (head_in a.head.now) a.records.now)
-    × ((c.take_in-taken.new.0 ≡ records_after (call (start c)) (head_in a.head.now) a.records.now)
+    × ((c.take_in-taken.new.w ≡ records_after (call (start c)) (head_in a.head.now) a.records.now)
     × ((counted_of c.take_in-taken.result.answer ≡ take_tells a.tick (length a.out.now) (head_in a.head.now) a.records.now)
-    × (c.take_in-taken.new.1.1.1.0 ≡ take_gives a.tick a.out.now (head_in a.head.now) a.records.now)))
+    × (c.take_in-taken.new.out ≡ take_gives a.tick a.out.now (head_in a.head.now) a.records.now)))
 made c = rw (head_read _ _ (else-of c).load-loaded.ensures (fits (else-of c))) at c.take_in-taken.ensures
 
-accepted : (c : tie.In-Records-2) → inside (start c.before.before.before.before) ≡ done
-accepted c = taken_done _ _ _ (made c.before.before.before.before).1.1.0 _ c.answer-in-Records-1.given.1
+accepted : (c : tie.In-Records) → inside (start c.before.before.before) ≡ done
+accepted c = taken_done _ _ _ (made c.before.before.before).1.1.0 _ c.in-Records.is
 
 load-requires : tie.Need-load-loaded-requires
 load-requires c κs = search rules
@@ -76,8 +76,8 @@ enum-known-answer-2 c = search rules
 
 store-requires : tie.Need-store-requires
 store-requires c κs =
-    let x = c.before.before.before.before.before.before.before in
-    ap (λ (h : Head). good_options (plain_options h.options)) (made x).0 ∙ stays_good _ _ _ (accepted c.before.before.before)
+    let x = c.before.before.before.before.before in
+    ap (λ (h : Head). good_options (plain_options h.options)) (made x).0 ∙ stays_good _ _ _ (accepted c.before.before)
 
 same_length : tie.Need-shape_of-out-in-Refused
 same_length c = search rules
@@ -85,9 +85,9 @@ same_length c = search rules
 returns-2 : tie.Need-returns-in-Refused
 unfolding if_done
 returns-2 c =
-    let x = c.before.before.before.before.before.before in
+    let x = c.before.before.before.before in
     let b = start x in
-    let e = taken_refused _ _ _ (made x).1.1.0 _ c.answer-1.given.1 in
+    let e = taken_refused _ _ _ (made x).1.1.0 _ c.in-Refused.is in
     let k : Kept (answer b) _ = read_kept _ (inside b) (fits (else-of x)) _ e in (
       c.number_of.ensures ∙ k.number _ _,
       (k.head _ _, ((made x).1.0 ∙ (sym (records_stay _ _ (call b) _ e) ∙ k.records _ _), ((rw e at (made x).1.1.1) ∙ k.out _ _, k.told _ _))),
@@ -99,8 +99,8 @@ same-length-2 c = search rules
 returns-3 : tie.Need-returns-in-Records
 unfolding if_done
 returns-3 c =
-    let y = c.before.before.before.before.before in
-    let x = y.before.before.before.before in
+    let y = c.before.before.before.before in
+    let x = y.before.before.before in
     let b = start x in
     let d : Done (answer b) = read_finished _ (inside b) (fits (else-of x)) (accepted y) in (
       d.number _ _,
@@ -110,7 +110,7 @@ returns-3 c =
           (made x).1.0 ∙ d.records _ _,
           (
             (rw (accepted y) at (made x).1.1.1) ∙ d.out _ _,
-            ap (λ (k : ℕ). k ∷ []) (taken_told _ _ _ (made x).1.1.0 _ y.answer-in-Records-1.given.1) ∙ d.told _ _,
+            ap (λ (k : ℕ). k ∷ []) (taken_told _ _ _ (made x).1.1.0 _ y.in-Records.is) ∙ d.told _ _,
           ),
         ),
       ),

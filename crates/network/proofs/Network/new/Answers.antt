@@ -8,7 +8,6 @@ use Rattle.network.specs.Forms.{struct_of}
 use Rattle.network_options.specs.Answers.{settled_of}
 use Rattle.network.specs.Calls.{first_network}
 use Rattle.network_options.proofs.OptionForms.{good_done, perfect_plain, perfect_good}
-use borrow.Author.Rules.{rules}
 use Rattle.network.proofs.Network.new.Goals as goal
 
 pub empty-requires : goal.empty-requires

@@ -1,5 +1,4 @@
 -- `network::Network::send` meets its contract: it is `send_in` of its own parts. Assumes nothing.
-use borrow.Author.Rules.{rules}
 use Rattle.network.proofs.Network.send.Goals as goal
 
 pub returns : goal.returns

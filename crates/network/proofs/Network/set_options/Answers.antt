@@ -1,5 +1,4 @@
 -- `network::Network::set_options` meets its contract: it is `options_in` of its own parts. Assumes nothing.
-use borrow.Author.Rules.{rules}
 use Rattle.network.proofs.Network.set_options.Goals as goal
 
 pub returns : goal.returns

@@ -1,6 +1,5 @@
 use Rattle.network_options.proofs.NetworkOptions.validate.Statement.{statement}
 use Rattle.network_options.proofs.NetworkOptions.validate.Tie as tie
-use borrow.Author.Tests.{not-true, not-false}
 use mathlib.Core.Path.{◌≡◌, ◌∙◌, sym}
 use mathlib.Core.Bool.{true}
 use lib.Ieee.{binary64, to_bits}
@@ -12,16 +11,16 @@ use borrow.Author.Rules.{rules}
 -- `network_options::NetworkOptions::validate` meets its contract: each test by comparison is the test of the word. Assumes nothing.
 -- the loss probability passed, and the replay probability
 loss_good : (c : tie.Else-not-good) → good_word (to_bits binary64 c.args.self.packet_loss_probability) ≡ true
-loss_good c = good_word_is _ ∙ (sym c.before.good2.ensures ∙ not-false _ c.if-not-good.false)
+loss_good c = good_word_is _ ∙ (sym c.good.ensures ∙ c.if-not-good.false)
 
 replay_good : (c : tie.Else-not-good-2) → good_word (to_bits binary64 c.args.self.packet_replay_probability) ≡ true
-replay_good c = good_word_is _ ∙ (sym c.before.good3.ensures ∙ not-false _ c.if-not-good-2.false)
+replay_good c = good_word_is _ ∙ (sym c.good-2.ensures ∙ c.if-not-good-2.false)
 
 good-requires : tie.Need-good-requires
 good-requires c κs = search rules
 
 returns : tie.Need-returns-then-not-good
-returns c = loss_fails (plain_options c.args.self) (good_word_is _ ∙ (sym c.before.good2.ensures ∙ not-true _ c.if-not-good.true))
+returns c = loss_fails (plain_options c.args.self) (good_word_is _ ∙ (sym c.good.ensures ∙ c.if-not-good.true))
 
 good-requires-2 : tie.Need-good-requires-2
 good-requires-2 c κs = search rules
@@ -29,7 +28,7 @@ good-requires-2 c κs = search rules
 returns-2 : tie.Need-returns-then-not-good-2
 returns-2 c =
     replay_fails (plain_options c.args.self) (loss_good c.before.before)
-    (good_word_is _ ∙ (sym c.before.good3.ensures ∙ not-true _ c.if-not-good-2.true))
+    (good_word_is _ ∙ (sym c.good-2.ensures ∙ c.if-not-good-2.true))
 
 returns-3 : tie.Need-returns-then-self
 returns-3 c =
