@@ -8,7 +8,7 @@ use Prim.Native.Nat.{ℕ, ◌+◌, ◌≤◌, ◌<◌, ◌%◌}
 use lib.Dec.{eqb}
 use lib.ListN.{length, get_or, set, length-set}
 use lib.Seq.{get_or-set_same, get_or-set_other}
-use Rattle.properties_snapshots.specs.Cluster.{Cluster, plant, last, entry, cluster_in}
+use Rattle.properties_snapshots.specs.Cluster.{Cluster, last, entry, cluster_in}
 use Rattle.properties_snapshots.specs.Layout.{id_at, commit_at, entry_at, last_at, seen_at}
 use Rattle.properties_snapshots.specs.Shape.{Snapshot, Forward}
 use Rattle.properties_snapshots.proofs.Below.{below_more, all_of}

@@ -1,6 +1,5 @@
 -- `properties_agreement::agrees` meets its contract: the entry is compared with the tracker's, or with that of the first plant that committed it.
 -- Assumes nothing.
-use borrow.Author.Rules.{rules}
 use native.Mathlib.Omega.{arith}
 use mathlib.Core.List.{List}
 use mathlib.Core.Path.{◌≡◌, ap, ◌∙◌}

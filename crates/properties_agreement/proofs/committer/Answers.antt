@@ -1,5 +1,4 @@
 -- `properties_agreement::committer` meets its contract. The loop's invariant: the first from q on is the first of all. Assumes nothing.
-use borrow.Author.Rules.{rules}
 use borrow.Author.Tests.{lt-ltb, le-ltb}
 use native.Mathlib.Omega.{arith}
 use native.Mathlib.Numerals.{add-one}
@@ -8,15 +7,11 @@ use mathlib.Core.List.{List}
 use mathlib.Core.Path.{◌≡◌, sym, ◌∙◌}
 use Prim.Native.Nat.{ℕ, suc, ◌+◌, ◌-◌, ◌≤◌, ◌<◌}
 use lib.ListN.{get_or}
-use Rattle.properties_snapshots.specs.Cluster.{cluster_in}
 use Rattle.properties_snapshots.specs.Layout.{commit_at}
 use Rattle.properties_snapshots.proofs.Held.{commit_held}
 use Rattle.properties_agreement.specs.Agreement.{committer_from, committer}
+use Rattle.properties_agreement.proofs.committer.Invariants.{from_there}
 use Rattle.properties_agreement.proofs.committer.Goals as goal
-
--- the first of the plants from q on, but for the last
-abbrev from_there : ℕ → List ℕ → List ℕ → List ℕ → ℕ → ℕ → ℕ
-from_there n p l t i q = committer_from (cluster_in n p l t) i q (n - 1 - q)
 
 module _ (n : ℕ) (p l t : List ℕ) (i q : ℕ) where
   left : q < n - 1 → n - 1 - q ≡ suc (n - 1 - (q + 1))

@@ -1,5 +1,4 @@
 -- `properties_canonical::all_durable` meets its contract: what is newly committed lies between the lowest and the highest. Assumes nothing.
-use borrow.Author.Rules.{rules}
 use native.Mathlib.Omega.{arith}
 use Rattle.properties_canonical.proofs.all_durable.Goals as goal
 

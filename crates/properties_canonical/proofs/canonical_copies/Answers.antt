@@ -1,6 +1,5 @@
 -- `properties_canonical::canonical_copies` meets its contract: the canonical entry stands in the tracker, or in the log of the first plant that
 -- committed it. Assumes nothing.
-use borrow.Author.Rules.{rules}
 use native.Mathlib.Omega.{arith}
 use mathlib.Core.Path.{◌≡◌, sym, ap, ◌∙◌}
 use Prim.Native.Nat.{ℕ}

@@ -1,7 +1,7 @@
 -- `properties_canonical::durable_between` meets its contract. The loop's invariant: at the indexes passed it holds. Assumes nothing.
 use native.Mathlib.Omega.{arith}
 use mathlib.Core.Bool.{false≢true}
-use Prim.Native.Nat.{ℕ, ◌-◌, ◌≤◌, ◌<◌}
+use Prim.Native.Nat.{◌≤◌}
 use Rattle.properties_snapshots.specs.Cluster.{cluster_in}
 use Rattle.properties_snapshots.proofs.Below.{below_more}
 use Rattle.properties_snapshots.proofs.Held.{commit_held}

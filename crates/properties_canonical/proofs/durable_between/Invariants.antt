@@ -1,11 +1,6 @@
-use native.Mathlib.Omega.{arith}
-use mathlib.Core.Bool.{false≢true}
 use Prim.Native.Nat.{ℕ, ◌-◌, ◌≤◌, ◌<◌}
 use Rattle.properties_snapshots.specs.Cluster.{cluster_in}
-use Rattle.properties_snapshots.proofs.Below.{below_more}
-use Rattle.properties_snapshots.proofs.Held.{commit_held}
 use Rattle.properties_canonical.specs.Canonical.{DurableAt}
-use Rattle.properties_canonical.proofs.Copies.{enough}
 use Rattle.properties_canonical.proofs.durable_between.Given as goal
 
 abbrev pub invariant-loop-i : goal.invariant-loop-i

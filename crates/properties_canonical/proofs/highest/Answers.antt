@@ -1,9 +1,8 @@
 -- `properties_canonical::highest` meets its contract. The loop's invariant: it is not under the commit of a plant passed that moved. Assumes nothing.
-use borrow.Author.Rules.{rules}
 use native.Mathlib.Omega.{arith}
-use Prim.Native.Nat.{ℕ, ◌-◌, ◌≤◌, ◌<◌}
+use Prim.Native.Nat.{◌≤◌}
 use lib.ListN.{get_or}
-use Rattle.properties_snapshots.specs.Layout.{log_entries, commit_at}
+use Rattle.properties_snapshots.specs.Layout.{commit_at}
 use Rattle.properties_snapshots.proofs.Below.{below_more}
 use Rattle.properties_canonical.specs.Canonical.{Moved}
 use Rattle.properties_canonical.proofs.highest.Goals as goal

@@ -1,8 +1,7 @@
 -- `properties_canonical::lowest` meets its contract. The loop's invariant: it is not over the last commit of a plant passed that moved. Assumes
 -- nothing.
-use borrow.Author.Rules.{rules}
 use native.Mathlib.Omega.{arith}
-use Prim.Native.Nat.{ℕ, ◌-◌, ◌≤◌, ◌<◌}
+use Prim.Native.Nat.{◌≤◌}
 use lib.ListN.{get_or}
 use Rattle.properties_snapshots.specs.Layout.{last_at}
 use Rattle.properties_snapshots.proofs.Below.{below_more}

@@ -1,9 +1,6 @@
-use borrow.Author.Rules.{rules}
-use native.Mathlib.Omega.{arith}
 use Prim.Native.Nat.{ℕ, ◌-◌, ◌≤◌, ◌<◌}
 use lib.ListN.{get_or}
 use Rattle.properties_snapshots.specs.Layout.{last_at}
-use Rattle.properties_snapshots.proofs.Below.{below_more}
 use Rattle.properties_canonical.specs.Canonical.{Moved}
 use Rattle.properties_canonical.proofs.lowest.Given as goal
 

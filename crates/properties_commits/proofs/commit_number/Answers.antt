@@ -1,5 +1,4 @@
 -- `properties_commits::commit_number` meets its contract: each answer is a test of the definition. Assumes nothing.
-use borrow.Author.Rules.{rules}
 use borrow.Author.Tests.{le-leb, lt-leb, eq-eqb, ne_eqb}
 use mathlib.Core.Path.{◌∙◌}
 use Rattle.properties_commits.specs.Commits.{commit_tests}

@@ -1,26 +1,20 @@
 -- `properties_commits::commit_numbers` meets its contract. The loop's invariant: what the plants from r on answer is what all answer. Assumes nothing.
-use borrow.Author.Rules.{rules}
 use native.Mathlib.Omega.{arith}
 use native.Mathlib.Nat.{sub-zero}
 use mathlib.Core.List.{List}
 use mathlib.Core.Path.{◌≡◌, sym, ◌∙◌}
 use Prim.Native.Nat.{ℕ, ◌-◌, ◌≤◌, ◌<◌}
-use lib.ListN.{length, get_or}
-use Rattle.properties_snapshots.specs.Cluster.{plant, last, cluster_in}
+use lib.ListN.{get_or}
+use Rattle.properties_snapshots.specs.Cluster.{cluster_in}
 use Rattle.properties_snapshots.specs.Layout.{commit_at, op_at, size_at, last_at}
 use Rattle.properties_snapshots.proofs.Held.{commit_held, op_held, size_held, last_held}
 use Rattle.properties_verdicts.specs.Verdicts.{first_answer}
-use Rattle.properties_verdicts.proofs.First.{no_pass, first_on, first_stop, first_end}
+use Rattle.properties_verdicts.proofs.First.{first_on, first_stop, first_end}
 use Rattle.properties_commits.specs.Commits.{commit_tests, commit_numbers}
 use Rattle.properties_verdicts.specs.declared.Answer.{Answer}
 use Rattle.properties_verdicts.specs.declared.Answer.TheVariants.{Pass}
+use Rattle.properties_commits.proofs.commit_numbers.Invariants.{tests}
 use Rattle.properties_commits.proofs.commit_numbers.Goals as goal
-
--- property 1 of a plant, and in words
-abbrev tests : ℕ → List ℕ → List ℕ → List ℕ → ℕ → Answer
-tests n p l t r =
-    commit_tests r (plant (cluster_in n p l t) r).commit (plant (cluster_in n p l t) r).op (length (plant (cluster_in n p l t) r).log)
-    (last (cluster_in n p l t) r)
 
 module _ (n : ℕ) (p l t : List ℕ) (r : ℕ) (h : r < n) where
   in_words : (commit op size was : ℕ) → commit ≡ get_or p (commit_at r) 0 → op ≡ get_or p (op_at r) 0 → size ≡ get_or p (size_at r) 0
@@ -55,9 +49,9 @@ returns-in_default c = let loop-test = c.loop-r-test in
     let i = c.loop-r in
     stopped a.n a.plants.now l a.tracker.now i.r the-commit-number.result loop-test.true
     (in_words a.n a.plants.now l a.tracker.now i.r loop-test.true _ _ _ _ commit.ensures op.ensures
-    c.before.before.before.type_size.ensures c.last_of-last.ensures
+    c.size_of-size.ensures c.last_of-last.ensures
     ∙ sym the-commit-number.ensures)
-    (no_pass the-commit-number.result c.in_default.keys2)
+    c.in_default.not-Pass
     (i.invariant.1 l)
 
 pub overflow_add-r : goal.overflow_add-r
@@ -70,7 +64,7 @@ pub loop-r-preserved : goal.loop-r-preserved
 loop-r-preserved c = let loop-test = c.loop-r-test in
     let commit = c.commit_of-commit in
     let op = c.op_of-op in
-    let size = c.before.before.before.before.type_size in
+    let size = c.size_of-size in
     let a = c.args in
     let i = c.loop-r in (
       omega arith,

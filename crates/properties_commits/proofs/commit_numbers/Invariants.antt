@@ -1,22 +1,21 @@
-use borrow.Author.Rules.{rules}
-use native.Mathlib.Omega.{arith}
-use native.Mathlib.Nat.{sub-zero}
 use mathlib.Core.List.{List}
-use mathlib.Core.Path.{◌≡◌, sym, ◌∙◌}
-use Prim.Native.Nat.{ℕ, ◌-◌, ◌≤◌, ◌<◌}
-use lib.ListN.{length, get_or}
+use mathlib.Core.Path.{◌≡◌}
+use Prim.Native.Nat.{ℕ, ◌-◌, ◌≤◌}
+use lib.ListN.{length}
 use Rattle.properties_snapshots.specs.Cluster.{plant, last, cluster_in}
-use Rattle.properties_snapshots.specs.Layout.{commit_at, op_at, size_at, last_at}
-use Rattle.properties_snapshots.proofs.Held.{commit_held, op_held, size_held, last_held}
 use Rattle.properties_verdicts.specs.Verdicts.{first_answer}
-use Rattle.properties_verdicts.proofs.First.{no_pass, first_on, first_stop, first_end}
-use Rattle.properties_commits.specs.Commits.{commit_tests, commit_numbers}
+use Rattle.properties_commits.specs.Commits.{commit_tests}
 use Rattle.properties_verdicts.specs.declared.Answer.{Answer}
-use Rattle.properties_verdicts.specs.declared.Answer.TheVariants.{Pass}
 use Rattle.properties_commits.proofs.commit_numbers.Given as goal
 
+-- property 1 of a plant, and in words
+abbrev pub tests : ℕ → List ℕ → List ℕ → List ℕ → ℕ → Answer
+tests n p l t r =
+    commit_tests r (plant (cluster_in n p l t) r).commit (plant (cluster_in n p l t) r).op (length (plant (cluster_in n p l t) r).log)
+    (last (cluster_in n p l t) r)
+
 abbrev pub invariant-loop-r : goal.invariant-loop-r
-invariant-loop-r l = (l.r ≤ l.n) × ((l : List ℕ) → first_answer (tests l.n l.plants l l.tracker) 0 l.n ≡ first_answer (tests l.n l.plants l l.tracker) l.r (l.n - l.r))
+invariant-loop-r l = (l.r ≤ l.n) × ((g : List ℕ) → first_answer (tests l.n l.plants g l.tracker) 0 l.n ≡ first_answer (tests l.n l.plants g l.tracker) l.r (l.n - l.r))
 
 abbrev pub decreases-loop-r : goal.decreases-loop-r
 decreases-loop-r l = l.n - l.r

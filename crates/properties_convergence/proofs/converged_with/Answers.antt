@@ -1,6 +1,6 @@
 -- `properties_convergence::converged_with` meets its contract: each answer is a test of the definition, in its order. Assumes nothing.
-use borrow.Author.Rules.{rules, sfits_of}
-use borrow.Author.Tests.{not-true, not-false, eq-eqb, ne_eqb}
+use borrow.Author.Rules.{sfits_of}
+use borrow.Author.Tests.{eq-eqb, ne_eqb}
 use native.Mathlib.Omega.{arith}
 use mathlib.Core.Bool.{Bool, true, false}
 use mathlib.Core.List.{List, [], ◌∷◌}
@@ -16,7 +16,7 @@ use Rattle.properties_snapshots.specs.Cluster.{same_entry, plant, entry, entry_i
 use Rattle.properties_snapshots.specs.Layout.{commit_at, size_at, entry_at}
 use Rattle.properties_snapshots.proofs.Held.{commit_held, size_held, entry_held}
 use Rattle.properties_verdicts.specs.Verdicts.{first_answer, first_failed, at_entry}
-use Rattle.properties_verdicts.proofs.First.{no_pass, then_stop, first_same}
+use Rattle.properties_verdicts.proofs.First.{then_stop, first_same}
 use Rattle.properties_convergence.specs.Convergence.{same_value, converged_with}
 use Rattle.properties_verdicts.specs.declared.Answer.{Answer}
 use Rattle.properties_verdicts.specs.declared.Answer.TheVariants.{Pass, Broken}
@@ -89,27 +89,27 @@ pub returns-then-size-size_of : goal.returns-then-size-size_of
 returns-then-size-size_of c = let args = c.args in
     let pre = c.requires in
     λ t. c.broken.ensures ∙ other_length args.n args.plants.now args.logs.now t args.values.now args.reference args.id pre.2
-    pre.3 (λ e. c.if-size-size_of.true (c.before.before.before.type_size.ensures ∙ (e ∙ sym c.size_of.ensures)))
+    pre.3 (λ e. c.if-size-size_of.true (c.size_of-size.ensures ∙ (e ∙ sym c.size_of.ensures)))
 
 pub same_logs-equal-requires : goal.same_logs-equal-requires
 same_logs-equal-requires c = let args = c.args in
     let pre = c.requires in
-    (pre.0.few, pre.0.logs, pre.2, pre.3, omega (arith, c.before.before.type_size.ensures, pre.0.sizes args.id pre.3))
+    (pre.0.few, pre.0.logs, pre.2, pre.3, omega (arith, c.size_of-size.ensures, pre.0.sizes args.id pre.3))
 
 pub returns-in_default : goal.returns-in_default
 returns-in_default c = let args = c.args in
     let pre = c.requires in
-    let the_size = c.before.before.before.before.type_size in
+    let the_size = c.size_of-size in
     let the-same-logs = c.same_logs-equal in
     λ t. other_entry args.n args.plants.now args.logs.now t args.values.now args.reference args.id pre.2 pre.3
     (sym the_size.ensures ∙ (c.if-size-size_of.false ∙ c.size_of.ensures)) the-same-logs.result
     (the-same-logs.ensures ∙ ap (first_answer (in_words args.logs.now args.reference args.id) 0) the_size.ensures)
-    (no_pass the-same-logs.result c.in_default.keys2)
+    c.in_default.not-Pass
 
 pub returns-then-commit_of-size : goal.returns-then-commit_of-size
 returns-then-commit_of-size c = let args = c.args in
     let pre = c.requires in
-    let the_size = c.before.before.before.before.before.before.before.before.type_size in
+    let the_size = c.size_of-size in
     let other-size = c.size_of in
     let if1 = c.if-size-size_of in
     let the-same-logs = c.same_logs-equal in
@@ -121,11 +121,10 @@ returns-then-commit_of-size c = let args = c.args in
 pub returns-then-not-same_value : goal.returns-then-not-same_value
 returns-then-not-same_value c = let args = c.args in
     let pre = c.requires in
-    let the_size = c.before.before.before.before.before.before.before.before.before.before.before.before.type_size in
+    let the_size = c.size_of-size in
     let other-size = c.size_of in
     let if1 = c.if-size-size_of in
     let the-same-logs = c.same_logs-equal in
-    let the-enum-told = c.enum_told-1 in
     let the-commit = c.commit_of in
     let if2 = c.if-commit_of-size in
     let the-same-value-arg = c.same_value-arg-1 in
@@ -133,25 +132,23 @@ returns-then-not-same_value c = let args = c.args in
     λ t. c.broken-then-not-same_value.ensures ∙ other_value args.n args.plants.now args.logs.now t args.values.now args.reference args.id pre.2
     pre.3 (sym the_size.ensures ∙ (if1.false ∙ other-size.ensures)) (sym
     (the-same-logs.ensures ∙ ap (first_answer (in_words args.logs.now args.reference args.id) 0) the_size.ensures) ∙
-    the-enum-told.given.1) (sym the-commit.ensures ∙ (if2.false ∙ the_size.ensures))
+    c.in-Pass.is) (sym the-commit.ensures ∙ (if2.false ∙ the_size.ensures))
     (as_read (get_or args.values.now args.id (pos 0)) (get_or args.values.now args.reference (pos 0)) the-same-value.result
-    (sfits_of the-same-value-arg.given) (sfits_of c.same_value-arg-2-1.given) the-same-value.ensures ∙ not-true _
-    c.if-not-same_value.true)
+    (sfits_of the-same-value-arg.given) (sfits_of c.same_value-arg-2-1.given) the-same-value.ensures ∙ c.if-not-same_value.true)
 
 pub returns : goal.returns
 returns c = let args = c.args in
     let pre = c.requires in
-    let the_size = c.before.before.before.before.before.before.before.before.before.before.before.type_size in
+    let the_size = c.size_of-size in
     let other-size = c.size_of in
     let if1 = c.if-size-size_of in
     let the-same-logs = c.same_logs-equal in
-    let the-enum-told = c.enum_told-1 in
     let the-commit = c.commit_of in
     let if2 = c.if-commit_of-size in
     let the-same-value = c.same_value in
     λ t. all_equal args.n args.plants.now args.logs.now t args.values.now args.reference args.id pre.2 pre.3
     (sym the_size.ensures ∙ (if1.false ∙ other-size.ensures)) (sym (the-same-logs.ensures ∙ ap
-    (first_answer (in_words args.logs.now args.reference args.id) 0) the_size.ensures) ∙ the-enum-told.given.1)
+    (first_answer (in_words args.logs.now args.reference args.id) 0) the_size.ensures) ∙ c.in-Pass.is)
     (sym the-commit.ensures ∙ (if2.false ∙ the_size.ensures)) (as_read (get_or args.values.now args.id (pos 0))
     (get_or args.values.now args.reference (pos 0)) the-same-value.result (sfits_of c.same_value-arg-1.given)
-    (sfits_of c.same_value-arg-2-1.given) the-same-value.ensures ∙ not-false _ c.if-not-same_value.false)
+    (sfits_of c.same_value-arg-2-1.given) the-same-value.ensures ∙ c.if-not-same_value.false)

@@ -3,19 +3,15 @@ use native.Mathlib.Omega.{arith}
 use native.Mathlib.Nat.{sub-zero}
 use mathlib.Core.List.{List}
 use mathlib.Core.Path.{◌≡◌, sym, ◌∙◌}
-use Prim.Native.Nat.{ℕ, ◌-◌, ◌≤◌}
+use Prim.Native.Nat.{ℕ}
 use lib.IntN.{ℤ}
 use lib.ListN.{length, get_or}
 use Rattle.properties_snapshots.specs.Cluster.{cluster_in}
-use Rattle.properties_verdicts.specs.Verdicts.{first_answer}
-use Rattle.properties_verdicts.proofs.First.{no_pass, first_on, first_stop, first_end}
+use Rattle.properties_verdicts.proofs.First.{first_on, first_stop, first_end}
 use Rattle.properties_convergence.specs.Convergence.{converged_with, converged}
 use Rattle.properties_verdicts.specs.declared.Answer.{Answer}
+use Rattle.properties_convergence.proofs.convergence.Invariants.{at}
 use Rattle.properties_convergence.proofs.convergence.Goals as goal
-
--- a core plant's answer
-abbrev at : ℕ → List ℕ → List ℕ → List ℤ → List ℕ → List ℕ → ℕ → Answer
-at n p l values core t k = converged_with (cluster_in n p l t) values (get_or core 0 0) (get_or core k 0)
 
 same : (n : ℕ) (p l : List ℕ) (values : List ℤ) (core t : List ℕ) (k reference id : ℕ) (a : Answer) → reference ≡ get_or core 0 0 → id ≡ get_or core k 0
     → a ≡ converged_with (cluster_in n p l t) values reference id → at n p l values core t k ≡ a
@@ -54,7 +50,7 @@ returns-in_default c = let args = c.args in
     loop.k (length args.core.now) the-converged-with.result c.loop-k-test.true
     (same args.n args.plants.now args.logs.now args.values.now args.core.now args.tracker.now loop.k
     the_number.result the-number2.result the-converged-with.result the_number.ensures the-number2.ensures
-    (the-converged-with.ensures args.tracker.now)) (no_pass the-converged-with.result c.in_default.keys2))
+    (the-converged-with.ensures args.tracker.now)) c.in_default.not-Pass)
 
 pub overflow_add-k : goal.overflow_add-k
 overflow_add-k c = omega arith

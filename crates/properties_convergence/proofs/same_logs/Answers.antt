@@ -1,23 +1,12 @@
 -- `properties_convergence::same_logs` meets its contract. The loop's invariant: what the entries from i on answer is what all answer. Assumes nothing.
-use borrow.Author.Rules.{rules}
-use borrow.Author.Tests.{not-true, not-false}
 use native.Mathlib.Omega.{arith}
 use native.Mathlib.Nat.{sub-zero}
-use mathlib.Core.List.{List}
-use mathlib.Core.Path.{◌≡◌, sym, ◌∙◌}
-use Prim.Native.Nat.{ℕ, ◌-◌, ◌≤◌}
-use Rattle.properties_snapshots.specs.Cluster.{same_entry, entry_in}
-use Rattle.properties_snapshots.specs.Layout.{entry_at}
-use Rattle.properties_verdicts.specs.Verdicts.{first_answer, at_entry}
+use mathlib.Core.Path.{sym, ◌∙◌}
 use Rattle.properties_verdicts.proofs.First.{broken_no_pass, first_on, first_stop, first_end}
-use Rattle.properties_verdicts.specs.declared.Answer.{Answer}
 use Rattle.properties_verdicts.specs.declared.Answer.TheVariants.{Broken}
 use Rattle.properties_verdicts.specs.declared.Property.TheVariants.{Convergence}
+use Rattle.properties_convergence.proofs.same_logs.Invariants.{compared}
 use Rattle.properties_convergence.proofs.same_logs.Goals as goal
-
--- an entry against the reference's
-abbrev compared : List ℕ → ℕ → ℕ → ℕ → Answer
-compared l reference id i = at_entry Convergence id i 2 (same_entry (entry_in l (entry_at id i)) (entry_in l (entry_at reference i)))
 
 pub loop-i-init : goal.loop-i-init
 loop-i-init c = (omega arith, rw sub-zero)
@@ -28,7 +17,7 @@ returns-then-not-same_logged c = let a = c.args in
     c.broken.ensures
     ∙ sym (l.invariant.1 ∙ first_stop (compared a.logs.now a.reference a.id) l.i a.size (Broken Convergence a.id l.i 2)
     c.loop-i-test.true
-    (rw (sym c.same_logged.ensures ∙ not-true _ c.if-not-same_logged.true)) (broken_no_pass Convergence a.id l.i 2))
+    (rw (sym c.same_logged.ensures ∙ c.if-not-same_logged.true)) (broken_no_pass Convergence a.id l.i 2))
 
 pub overflow_add-i : goal.overflow_add-i
 overflow_add-i c = omega arith
@@ -41,7 +30,7 @@ loop-i-preserved c = let a = c.args in
     let l = c.loop-i in (
       omega arith,
       l.invariant.1 ∙ first_on (compared a.logs.now a.reference a.id) l.i a.size c.loop-i-test.true
-          (rw (sym c.same_logged.ensures ∙ not-false _ c.if-not-same_logged.false)),
+          (rw (sym c.same_logged.ensures ∙ c.if-not-same_logged.false)),
     )
 
 pub returns : goal.returns

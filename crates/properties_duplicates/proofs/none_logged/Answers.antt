@@ -2,19 +2,16 @@
 use borrow.Author.Tests.{eq-eqb, ne_eqb}
 use native.Mathlib.Omega.{arith}
 use native.Mathlib.Nat.{sub_self}
-use mathlib.Core.Bool.{Bool, true, false, not}
+use mathlib.Core.Bool.{true, false}
 use mathlib.Core.List.{List}
 use mathlib.Core.Path.{◌≡◌, sym, ap, ◌∙◌}
 use Prim.Native.Nat.{ℕ, ◌+◌, ◌-◌, ◌≤◌, ◌<◌}
-use lib.Dec.{eqb}
 use lib.ListN.{get_or}
 use Rattle.properties_snapshots.specs.Below.{all_below}
 use Rattle.properties_snapshots.specs.Layout.{id_at, entry_at}
 use Rattle.properties_snapshots.proofs.Below.{all_none, all_more, all_false}
+use Rattle.properties_duplicates.proofs.none_logged.Invariants.{other}
 use Rattle.properties_duplicates.proofs.none_logged.Goals as goal
-
-abbrev other : List ℕ → ℕ → ℕ → ℕ → ℕ → Bool
-other l r from id k = not (eqb (get_or l (id_at (entry_at r (from + k))) 0) id)
 
 module _ (l : List ℕ) (r from id j : ℕ) (g : from ≤ j) where
   here : from + (j - from) ≡ j

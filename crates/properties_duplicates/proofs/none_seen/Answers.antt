@@ -1,19 +1,15 @@
 -- `properties_duplicates::none_seen` meets its contract. The loop's invariant: the answer for the ids passed. Assumes nothing.
 use borrow.Author.Tests.{eq-eqb, ne_eqb}
 use native.Mathlib.Omega.{arith}
-use mathlib.Core.Bool.{Bool, not}
-use mathlib.Core.List.{List}
-use mathlib.Core.Logic.{⊎_elim}
+use mathlib.Core.Bool.{not}
 use mathlib.Core.Path.{◌≡◌, sym, ap, ◌∙◌}
-use Prim.Native.Nat.{ℕ, ◌+◌, ◌-◌, ◌≤◌}
-use lib.Dec.{eqb}
+use Prim.Native.Nat.{ℕ, ◌+◌}
 use lib.ListN.{get_or}
 use Rattle.properties_snapshots.specs.Below.{all_below}
 use Rattle.properties_snapshots.proofs.Below.{all_none, all_kept, all_false}
+use Rattle.properties_duplicates.proofs.none_seen.Invariants.{differs}
 use Rattle.properties_duplicates.proofs.none_seen.Goals as goal
-
-abbrev differs : List ℕ → ℕ → ℕ → ℕ → Bool
-differs t at id j = not (eqb (get_or t (at + j) 0) id)
+use Rattle.properties_duplicates.proofs.none_seen.Goals.{then-tracker-at, else-tracker-at}
 
 pub loop-j-init : goal.loop-j-init
 loop-j-init c = let a = c.args in (omega arith, sym (all_none (differs a.tracker.now a.at a.id)))
@@ -39,10 +35,10 @@ loop-j-preserved c = let a = c.args in
     let f = differs a.tracker.now a.at a.id in
     let seen = get_or a.tracker.now (a.at + loop.j) 0 in (
       omega arith,
-      ⊎_elim
-          (λ w. w.1 ∙ sym (all_false (loop.j + 1) f loop.j (omega arith) (ap not (eq-eqb seen a.id w.0.taken))))
-          (λ w. w.1 ∙ (loop.invariant.1 ∙ sym (all_kept loop.j f (ap not (ne_eqb seen a.id w.0.left)))))
-          c.if-tracker-at.branch,
+      elim c.if-tracker-at.branch [
+        | then-tracker-at w ↦ w.other-is ∙ sym (all_false (loop.j + 1) f loop.j (omega arith) (ap not (eq-eqb seen a.id w.if-tracker-at.true)))
+        | else-tracker-at w ↦ w.other-is ∙ (loop.invariant.1 ∙ sym (all_kept loop.j f (ap not (ne_eqb seen a.id w.if-tracker-at.false))))
+      ],
     )
 
 pub returns : goal.returns

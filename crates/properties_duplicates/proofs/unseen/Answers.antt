@@ -1,6 +1,4 @@
 -- `properties_duplicates::unseen` meets its contract: the plant's first i ids are the tracker's below last commit, and then the log's. Assumes nothing.
-use borrow.Author.Rules.{rules}
-use borrow.Author.Tests.{not-true, not-false}
 use native.Mathlib.Omega.{arith}
 use mathlib.Core.Bool.{Bool, true, false, not, ◌&&◌}
 use mathlib.Core.List.{List}
@@ -70,7 +68,7 @@ returns-then-not-none_seen c = let a = c.args in
     let the_last = c.last_of.ensures in
     found a.n a.plants.now a.logs.now a.tracker.now pre.snapshot.0 pre.snapshot.2 a.r a.i pre.r_lt_n.0 pre.r_lt_n.1 _ _ _
     (c.known_below-known.ensures ∙ ap (min a.i) the_last) c.seen_at-at.ensures c.logged_id-id.ensures
-    (sym c.none_seen.ensures ∙ not-true _ c.if-not-none_seen.true)
+    (sym c.none_seen.ensures ∙ c.if-not-none_seen.true)
 
 pub none_logged-requires : goal.none_logged-requires
 none_logged-requires c = let a = c.args in
@@ -85,4 +83,4 @@ returns c = let a = c.args in
     c.none_logged.ensures
     ∙ missed a.n a.plants.now a.logs.now a.tracker.now pre.snapshot.0 pre.snapshot.2 a.r a.i pre.r_lt_n.0 pre.r_lt_n.1 _ _ _
     (c.known_below-known.ensures ∙ ap (min a.i) the_last) c.seen_at-at.ensures c.logged_id-id.ensures
-    (sym c.none_seen.ensures ∙ not-false _ c.if-not-none_seen.false)
+    (sym c.none_seen.ensures ∙ c.if-not-none_seen.false)

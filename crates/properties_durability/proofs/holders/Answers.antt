@@ -1,18 +1,12 @@
 -- `properties_durability::holders` meets its contract. The loop's invariant: the copies of the plants passed are counted. Assumes nothing.
 use native.Mathlib.Omega.{arith}
-use mathlib.Core.Bool.{Bool}
-use mathlib.Core.List.{List}
-use mathlib.Core.Logic.{⊎_elim}
 use mathlib.Core.Path.{◌≡◌, sym, ap, ◌∙◌}
-use Prim.Native.Nat.{ℕ, ◌+◌, ◌-◌, ◌≤◌}
+use Prim.Native.Nat.{ℕ, ◌+◌}
 use Rattle.properties_snapshots.specs.Below.{count_below}
-use Rattle.properties_snapshots.specs.Cluster.{entry_in, cluster_in}
 use Rattle.properties_snapshots.proofs.Below.{count_none, count_in, count_out}
-use Rattle.properties_durability.specs.Durability.{holds_copy}
+use Rattle.properties_durability.proofs.holders.Invariants.{has}
+use Rattle.properties_durability.proofs.holders.Goals.{then-holds_copy, else-holds_copy}
 use Rattle.properties_durability.proofs.holders.Goals as goal
-
-abbrev has : ℕ → List ℕ → List ℕ → List ℕ → ℕ → List ℕ → ℕ → ℕ → Bool
-has n p l t i w at = holds_copy (cluster_in n p l t) i (entry_in w at)
 
 pub loop-q-init : goal.loop-q-init
 loop-q-init c = let args = c.args in
@@ -37,22 +31,22 @@ pub loop-q-preserved : goal.loop-q-preserved
 loop-q-preserved c = let the-holds-copy = c.holds_copy in
     let a = c.args in
     let i = c.loop-q in
-    ⊎_elim
-    (λ w. (
-      omega arith,
-      omega (arith, w.1),
-      λ t.
-          w.1 ∙ (ap (λ (x : ℕ). x + 1) (i.invariant.2 t) ∙ sym (count_in i.q (has a.n a.plants.now a.logs.now t a.i a.words.now a.at)
-          (sym (the-holds-copy.ensures t) ∙ w.0.taken))),
-    ))
-    (λ w. (
-      omega arith,
-      omega (arith, w.1),
-      λ t.
-          w.1 ∙ (i.invariant.2 t ∙ sym (count_out i.q (has a.n a.plants.now a.logs.now t a.i a.words.now a.at)
-          (sym (the-holds-copy.ensures t) ∙ w.0.left))),
-    ))
-    c.if-holds_copy.branch
+    elim c.if-holds_copy.branch [
+      | then-holds_copy w ↦ (
+        omega arith,
+        omega (arith, w.count-is),
+        λ t.
+            w.count-is ∙ (ap (λ (x : ℕ). x + 1) (i.invariant.2 t) ∙ sym (count_in i.q (has a.n a.plants.now a.logs.now t a.i a.words.now a.at)
+            (sym (the-holds-copy.ensures t) ∙ w.if-holds_copy.true))),
+      )
+      | else-holds_copy w ↦ (
+        omega arith,
+        omega (arith, w.count-is),
+        λ t.
+            w.count-is ∙ (i.invariant.2 t ∙ sym (count_out i.q (has a.n a.plants.now a.logs.now t a.i a.words.now a.at)
+            (sym (the-holds-copy.ensures t) ∙ w.if-holds_copy.false))),
+      )
+    ]
 
 pub returns : goal.returns
 returns c = let a = c.args in

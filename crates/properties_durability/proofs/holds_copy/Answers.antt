@@ -1,5 +1,4 @@
 -- `properties_durability::holds_copy` meets its contract: each answer is a test of the definition. Assumes nothing.
-use borrow.Author.Rules.{rules}
 use borrow.Author.Tests.{lt-ltb, le-ltb, eq-eqb, ne_eqb}
 use native.Mathlib.Omega.{arith}
 use mathlib.Core.Bool.{false}
@@ -45,7 +44,7 @@ returns-then-size_of-i c = let pre = c.requires in
     λ t.
     let a = c.args in
     short a.n a.plants.now a.logs.now t a.i a.q _ pre.3
-    (λ e. c.if-recovering_of-eq1.false (c.recovering_of.ensures ∙ e)) (omega (arith, c.before.type_size.ensures, c.if-size_of-i.true))
+    (λ e. c.if-recovering_of-eq1.false (c.recovering_of.ensures ∙ e)) (omega (arith, c.size_of.ensures, c.if-size_of-i.true))
 
 pub entry_at-own-requires : goal.entry_at-own-requires
 entry_at-own-requires c = let pre = c.requires in
@@ -58,7 +57,7 @@ same_entry-requires c = let pre = c.requires in
 pub returns : goal.returns
 returns c = let pre = c.requires in
     let a = c.args in
-    let size = c.before.before.before.type_size.ensures in
+    let size = c.size_of.ensures in
     let flag = c.recovering_of.ensures in λ t.
     c.same_entry.ensures
     ∙ (ap (λ (k : ℕ). same_entry (entry_in a.logs.now k) (entry_in a.words.now a.at)) c.entry_at-own.ensures

@@ -1,5 +1,4 @@
 -- `properties_durability::needed_copies` meets its contract: it is the definition's difference, which is 0 below 0. Assumes nothing.
-use borrow.Author.Rules.{rules}
 use native.Mathlib.Omega.{arith}
 use Rattle.properties_durability.proofs.needed_copies.Goals as goal
 

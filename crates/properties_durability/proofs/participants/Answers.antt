@@ -1,24 +1,19 @@
 -- `properties_durability::participants` meets its contract. The loop's invariant: the plants passed are counted. Assumes nothing.
-use borrow.Author.Rules.{rules}
 use borrow.Author.Tests.{eq-eqb, ne_eqb}
 use native.Mathlib.Omega.{arith}
-use mathlib.Core.Bool.{Bool, true, false, not}
+use mathlib.Core.Bool.{true, false}
 use mathlib.Core.List.{List}
-use mathlib.Core.Logic.{⊎_elim}
 use mathlib.Core.Path.{◌≡◌, sym, ap, ◌∙◌}
-use Prim.Native.Nat.{ℕ, ◌+◌, ◌-◌, ◌≤◌, ◌<◌}
+use Prim.Native.Nat.{ℕ, ◌+◌, ◌<◌}
 use lib.ListN.{get_or}
 use Rattle.properties_snapshots.specs.Below.{count_below}
-use Rattle.properties_snapshots.specs.Cluster.{plant, cluster_in}
 use Rattle.properties_snapshots.specs.Layout.{recovering_at}
 use Rattle.properties_snapshots.proofs.Below.{count_none, count_in, count_out}
 use Rattle.properties_snapshots.proofs.Held.{recovering_held}
 use Rattle.properties_durability.specs.Durability.{participants}
+use Rattle.properties_durability.proofs.participants.Invariants.{takes}
+use Rattle.properties_durability.proofs.participants.Goals.{then-recovering_of-ne1, else-recovering_of-ne1}
 use Rattle.properties_durability.proofs.participants.Goals as goal
-
--- a plant takes part
-abbrev takes : ℕ → List ℕ → List ℕ → List ℕ → ℕ → Bool
-takes n p l t q = not (plant (cluster_in n p l t) q).recovering
 
 module _ (n : ℕ) (p l t : List ℕ) (q : ℕ) (h : q < n) where
   is_in : (get_or p (recovering_at q) 0 ≡ 1 → ⊥) → takes n p l t q ≡ true
@@ -44,21 +39,21 @@ loop-q-preserved c = let a = c.args in
     let i = c.loop-q in
     let h = c.loop-q-test.true in
     let word = c.recovering_of.ensures in
-    ⊎_elim
-    (λ w. (
-      omega arith,
-      omega (arith, w.1),
-      λ l t.
-          w.1 ∙ (ap (λ (x : ℕ). x + 1) (i.invariant.2 l t) ∙ sym (count_in i.q (takes a.n a.plants.now l t)
-          (is_in a.n a.plants.now l t i.q h (λ e. w.0.taken (word ∙ e))))),
-    ))
-    (λ w. (
-      omega arith,
-      omega (arith, w.1),
-      λ l t.
-          w.1 ∙ (i.invariant.2 l t ∙ sym (count_out i.q (takes a.n a.plants.now l t) (is_out a.n a.plants.now l t i.q h (sym word ∙ w.0.left)))),
-    ))
-    c.if-recovering_of-ne1.branch
+    elim c.if-recovering_of-ne1.branch [
+      | then-recovering_of-ne1 w ↦ (
+        omega arith,
+        omega (arith, w.count-is),
+        λ l t.
+            w.count-is ∙ (ap (λ (x : ℕ). x + 1) (i.invariant.2 l t) ∙ sym (count_in i.q (takes a.n a.plants.now l t)
+            (is_in a.n a.plants.now l t i.q h (λ e. w.if-recovering_of-ne1.true (word ∙ e))))),
+      )
+      | else-recovering_of-ne1 w ↦ (
+        omega arith,
+        omega (arith, w.count-is),
+        λ l t.
+            w.count-is ∙ (i.invariant.2 l t ∙ sym (count_out i.q (takes a.n a.plants.now l t) (is_out a.n a.plants.now l t i.q h (sym word ∙ w.if-recovering_of-ne1.false)))),
+      )
+    ]
 
 pub returns : goal.returns
 unfolding participants

@@ -1,5 +1,4 @@
 -- `properties_judge::duplicates` meets its contract: where no new id was seen property 4 passes, and else it is asked. Assumes nothing.
-use borrow.Author.Rules.{rules}
 use mathlib.Core.Path.{sym}
 use Rattle.properties_snapshots.specs.Cluster.{cluster_in}
 use Rattle.properties_judge.proofs.Laws.{entries_pass}

@@ -1,6 +1,5 @@
 -- `properties_judge::durability` meets its contract: entries that agree with canonical ones of enough copies are durable, and else property 6 is
 -- asked. Assumes nothing.
-use borrow.Author.Rules.{rules}
 use native.Mathlib.Omega.{arith}
 use mathlib.Core.Path.{sym}
 use Rattle.properties_snapshots.specs.Cluster.{cluster_in}

@@ -1,29 +1,18 @@
 -- `properties_judge::entries` meets its contract. The outer loop's invariant: what the plants from r on answer is what all answer; the inner one's:
 -- what the entries from i on answer is what all of the plant's newly committed ones answer. Assumes nothing.
-use borrow.Author.Rules.{rules}
-use borrow.Author.Tests.{not-true, not-false}
 use native.Mathlib.Omega.{arith}
 use native.Mathlib.Nat.{sub-zero}
-use mathlib.Core.Logic.{⊎_elim}
 use mathlib.Core.Path.{◌≡◌, sym, ◌∙◌}
-use Prim.Native.Nat.{ℕ, ◌-◌, ◌≤◌}
-use Rattle.properties_snapshots.specs.Cluster.{Cluster, cluster_in}
+use Prim.Native.Nat.{ℕ}
+use Rattle.properties_snapshots.specs.Cluster.{cluster_in}
 use Rattle.properties_snapshots.proofs.Held.{commit_held, last_held}
-use Rattle.properties_verdicts.specs.Verdicts.{first_answer, at_entry, over_committed}
 use Rattle.properties_verdicts.proofs.First.{broken_no_pass, first_on, first_stop, first_end}
-use Rattle.properties_judge.specs.Ticks.{named, asked, over_entries}
-use Rattle.properties_verdicts.specs.declared.Answer.{Answer}
+use Rattle.properties_judge.specs.Ticks.{named, over_entries}
 use Rattle.properties_verdicts.specs.declared.Answer.TheVariants.{Broken}
 use Rattle.properties_verdicts.specs.declared.Property.{Property}
-use Rattle.properties_judge.specs.declared.EntryProperty.{EntryProperty}
+use Rattle.properties_judge.proofs.entries.Invariants.{at, of_plant}
+use Rattle.properties_judge.proofs.entries.Goals.{else-plants-test, then-plants-test+then-indexes-test+then-not-entry_holds}
 use Rattle.properties_judge.proofs.entries.Goals as goal
-
--- an entry's answer, and a plant's
-abbrev at : EntryProperty → Cluster → ℕ → ℕ → Answer
-at property c r i = at_entry (named property) r i 1 (asked property c r i)
-
-abbrev of_plant : EntryProperty → Cluster → ℕ → Answer
-of_plant property c r = over_committed c r (at property c r)
 
 -- a break is told by its property, plant and index
 same_break : {p q : Property} {i j : ℕ} (r : ℕ) → p ≡ q → i ≡ j → Broken p r i 1 ≡ Broken q r j 1
@@ -87,7 +76,7 @@ indexes-preserved c = let the-plants = c.plants in
       omega (arith, the-indexes-test.true),
       the-indexes.invariant.1
           ∙ first_on (at a.property k the-plants.r) the-indexes.i the-commit.result the-indexes-test.true
-          (rw (sym c.entry_holds.ensures ∙ not-false _ c.if-not-entry_holds.false)),
+          (rw (sym c.entry_holds.ensures ∙ c.if-not-entry_holds.false)),
     )
 
 pub overflow_add-r : goal.overflow_add-r
@@ -119,20 +108,20 @@ returns-then-r-n c = let the-plants = c.plants in
     let k = cluster_in a.n a.plants.now a.logs.now a.tracker.now in
     let p = named a.property in
     let r = the-plants.r in
-    ⊎_elim
-    (λ w. absurd (omega (arith, w.0.left, if2.true)))
-    (λ w.
-    c.broken.ensures
-    ∙ (same_break r c.property_of.ensures w.7
-    ∙ sym
-    (the-plants.invariant.1
-    ∙ first_stop (of_plant a.property k) r a.n (Broken p r w.3.i 1) if2.true
-    (w.3.invariant.1
-    ∙ first_stop (at a.property k r) w.3.i w.1.result (Broken p r w.3.i 1) w.4.taken
-    (rw (sym w.5.ensures ∙ not-true _ w.6.taken))
-    (broken_no_pass p r w.3.i 1))
-    (broken_no_pass p r w.3.i 1))))
-    c.plants-test.branch
+    elim c.plants-test.branch [
+      | else-plants-test w ↦ absurd (omega (arith, w.plants-test.false, if2.true))
+      | then-plants-test+then-indexes-test+then-not-entry_holds w ↦
+          c.broken.ensures
+          ∙ (same_break r c.property_of.ensures w.i-is
+          ∙ sym
+          (the-plants.invariant.1
+          ∙ first_stop (of_plant a.property k) r a.n (Broken p r w.indexes.i 1) if2.true
+          (w.indexes.invariant.1
+          ∙ first_stop (at a.property k r) w.indexes.i w.commit_of-commit.result (Broken p r w.indexes.i 1) w.indexes-test.true
+          (rw (sym w.entry_holds.ensures ∙ w.if-not-entry_holds.true))
+          (broken_no_pass p r w.indexes.i 1))
+          (broken_no_pass p r w.indexes.i 1)))
+    ]
 
 pub returns : goal.returns
 returns c = let the-plants = c.plants in

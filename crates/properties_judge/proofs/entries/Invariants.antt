@@ -1,20 +1,18 @@
-use borrow.Author.Rules.{rules}
-use borrow.Author.Tests.{not-true, not-false}
-use native.Mathlib.Omega.{arith}
-use native.Mathlib.Nat.{sub-zero}
-use mathlib.Core.Logic.{⊎_elim}
-use mathlib.Core.Path.{◌≡◌, sym, ◌∙◌}
+use mathlib.Core.Path.{◌≡◌}
 use Prim.Native.Nat.{ℕ, ◌-◌, ◌≤◌}
 use Rattle.properties_snapshots.specs.Cluster.{Cluster, cluster_in}
-use Rattle.properties_snapshots.proofs.Held.{commit_held, last_held}
 use Rattle.properties_verdicts.specs.Verdicts.{first_answer, at_entry, over_committed}
-use Rattle.properties_verdicts.proofs.First.{broken_no_pass, first_on, first_stop, first_end}
 use Rattle.properties_judge.specs.Ticks.{named, asked, over_entries}
 use Rattle.properties_verdicts.specs.declared.Answer.{Answer}
-use Rattle.properties_verdicts.specs.declared.Answer.TheVariants.{Broken}
-use Rattle.properties_verdicts.specs.declared.Property.{Property}
 use Rattle.properties_judge.specs.declared.EntryProperty.{EntryProperty}
 use Rattle.properties_judge.proofs.entries.Given as goal
+
+-- an entry's answer, and a plant's
+abbrev pub at : EntryProperty → Cluster → ℕ → ℕ → Answer
+at property c r i = at_entry (named property) r i 1 (asked property c r i)
+
+abbrev pub of_plant : EntryProperty → Cluster → ℕ → Answer
+of_plant property c r = over_committed c r (at property c r)
 
 abbrev pub invariant-indexes : goal.invariant-indexes
 invariant-indexes l = (l.i ≤ l.commit) × (of_plant l.property (cluster_in l.n l.plants l.logs l.tracker) l.r ≡ first_answer

@@ -1,5 +1,4 @@
 -- `properties_judge::entry_holds` meets its contract, property by property. Assumes nothing.
-use borrow.Author.Rules.{rules}
 use native.Mathlib.Omega.{arith}
 use Rattle.properties_durability.specs.Durability.{durable}
 use Rattle.properties_judge.proofs.entry_holds.Goals as goal

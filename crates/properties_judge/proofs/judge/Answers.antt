@@ -1,8 +1,7 @@
 -- `properties_judge::judge` meets its contract: the first answer that is no pass. Assumes nothing.
-use borrow.Author.Rules.{rules}
 use mathlib.Core.Path.{sym, ◌∙◌}
 use Rattle.properties_snapshots.specs.Cluster.{cluster_in}
-use Rattle.properties_verdicts.proofs.First.{no_pass, then_stop}
+use Rattle.properties_verdicts.proofs.First.{then_stop}
 use Rattle.properties_commits.specs.Commits.{commit_numbers}
 use Rattle.properties_commits.proofs.Forwards.{forward_known}
 use Rattle.properties_judge.specs.Ticks.{judged_entries, tick_judged}
@@ -14,7 +13,7 @@ returns-in_default c = let the-commit-numbers = c.commit_numbers-numbers in
     let a = c.args in
     let k = cluster_in a.n a.plants.now a.logs.now a.tracker.now in
     the-commit-numbers.ensures a.logs.now
-    ∙ sym (then_stop (commit_numbers k) (judged_entries k) (λ e. no_pass the-commit-numbers.result c.in_default.keys2
+    ∙ sym (then_stop (commit_numbers k) (judged_entries k) (λ e. c.in_default.not-Pass
     (the-commit-numbers.ensures a.logs.now ∙ e)))
 
 pub judge_entries-requires : goal.judge_entries-requires

@@ -1,15 +1,13 @@
 -- `properties_marks::by_marks` meets its contract. The loop's invariant: property 4 holds of what was passed, and its ids are marked. Assumes nothing.
-use borrow.Author.Tests.{not-false}
 use native.Mathlib.Omega.{arith}
 use mathlib.Core.Bool.{false≢true}
-use mathlib.Core.Logic.{⊎_elim}
 use mathlib.Core.Path.{sym, ◌∙◌}
-use Prim.Native.Nat.{◌-◌, ◌≤◌, ◌<◌}
+use Prim.Native.Nat.{◌<◌}
 use lib.ListN.{get_or}
-use Rattle.properties_snapshots.specs.Cluster.{cluster_in}
 use Rattle.properties_snapshots.specs.Layout.{commit_at}
 use Rattle.properties_duplicates.proofs.Ids.{within}
-use Rattle.properties_marks.proofs.Walk.{Walked, passed_all, start, unmarked, on}
+use Rattle.properties_marks.proofs.Walk.{passed_all, start, unmarked, on}
+use Rattle.properties_marks.proofs.by_marks.Goals.{then-seen-mark-ne0+else-not-unseen, else-seen-mark-ne0}
 use Rattle.properties_marks.proofs.by_marks.Goals as goal
 
 pub commit_of-commit-requires : goal.commit_of-commit-requires
@@ -75,10 +73,10 @@ loop-i-preserved c = let a = c.args in
     let id = c.logged_id in (
       omega arith,
       on a.n a.plants.now a.logs.now a.tracker.now pre.0 pre.2 a.r pre.3 loop.i loop.seen loop.invariant.1 h id.result id.ensures
-          (⊎_elim
-          (λ u. sym u.1.ensures ∙ not-false _ u.2.left)
-          (λ u. unmarked a.n a.plants.now a.logs.now a.tracker.now pre.0 pre.2 a.r pre.3 loop.i loop.seen loop.invariant.1 h id.result id.ensures u.left)
-          c.if-seen-mark-ne0.branch),
+          (elim c.if-seen-mark-ne0.branch [
+            | then-seen-mark-ne0+else-not-unseen w ↦ sym w.unseen.ensures ∙ w.if-not-unseen.false
+            | else-seen-mark-ne0 w ↦ unmarked a.n a.plants.now a.logs.now a.tracker.now pre.0 pre.2 a.r pre.3 loop.i loop.seen loop.invariant.1 h id.result id.ensures w.if-seen-mark-ne0.false
+          ]),
     )
 
 pub returns : goal.returns

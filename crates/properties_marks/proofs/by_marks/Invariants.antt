@@ -1,14 +1,6 @@
-use borrow.Author.Tests.{not-false}
-use native.Mathlib.Omega.{arith}
-use mathlib.Core.Bool.{false≢true}
-use mathlib.Core.Logic.{⊎_elim}
-use mathlib.Core.Path.{sym, ◌∙◌}
-use Prim.Native.Nat.{◌-◌, ◌≤◌, ◌<◌}
-use lib.ListN.{get_or}
+use Prim.Native.Nat.{◌-◌, ◌≤◌}
 use Rattle.properties_snapshots.specs.Cluster.{cluster_in}
-use Rattle.properties_snapshots.specs.Layout.{commit_at}
-use Rattle.properties_duplicates.proofs.Ids.{within}
-use Rattle.properties_marks.proofs.Walk.{Walked, passed_all, start, unmarked, on}
+use Rattle.properties_marks.proofs.Walk.{Walked}
 use Rattle.properties_marks.proofs.by_marks.Given as goal
 
 abbrev pub invariant-loop-i : goal.invariant-loop-i

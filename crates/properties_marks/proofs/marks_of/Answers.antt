@@ -2,7 +2,7 @@
 use native.Mathlib.Omega.{arith}
 use mathlib.Core.List.{List}
 use mathlib.Core.Path.{◌≡◌, ap, subst, ◌∙◌}
-use Prim.Native.Nat.{ℕ, ◌+◌, ◌-◌, ◌≤◌, ◌<◌, ◌%◌}
+use Prim.Native.Nat.{ℕ, ◌+◌, ◌<◌, ◌%◌}
 use lib.ListN.{length, get_or, set, length-set, length-replicate}
 use Rattle.properties_snapshots.specs.Layout.{seen_at}
 use Rattle.properties_snapshots.proofs.Below.{below_more}

@@ -1,12 +1,8 @@
-use native.Mathlib.Omega.{arith}
-use mathlib.Core.List.{List}
-use mathlib.Core.Path.{◌≡◌, ap, subst, ◌∙◌}
-use Prim.Native.Nat.{ℕ, ◌+◌, ◌-◌, ◌≤◌, ◌<◌, ◌%◌}
-use lib.ListN.{length, get_or, set, length-set, length-replicate}
+use mathlib.Core.Path.{◌≡◌}
+use Prim.Native.Nat.{ℕ, ◌-◌, ◌≤◌, ◌<◌}
+use lib.ListN.{length, get_or}
 use Rattle.properties_snapshots.specs.Layout.{seen_at}
-use Rattle.properties_snapshots.proofs.Below.{below_more}
 use Rattle.properties_marks.specs.Marks.{marks, Marked}
-use Rattle.properties_marks.proofs.Walk.{mark_set, mark_kept}
 use Rattle.properties_marks.proofs.marks_of.Given as goal
 
 abbrev pub invariant-loop-j : goal.invariant-loop-j

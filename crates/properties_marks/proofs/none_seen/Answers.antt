@@ -1,8 +1,6 @@
 -- `properties_marks::none_seen` meets its contract. The loop's invariant: the plants passed have none. Assumes nothing.
-use borrow.Author.Tests.{not-false}
 use native.Mathlib.Omega.{arith}
 use mathlib.Core.Bool.{false≢true}
-use Prim.Native.Nat.{ℕ, ◌-◌, ◌≤◌, ◌<◌}
 use Rattle.properties_snapshots.specs.Cluster.{cluster_in}
 use Rattle.properties_snapshots.proofs.Below.{below_more}
 use Rattle.properties_marks.specs.Marks.{NoneSeen}
@@ -29,7 +27,7 @@ loop-r-preserved c = let a = c.args in
     let loop = c.loop-r in (
       omega arith,
       below_more (NoneSeen (cluster_in a.n a.plants.now a.logs.now a.tracker.now)) loop.r loop.invariant.1
-          (c.plant_unseen.ensures (not-false _ c.if-not-plant_unseen.false)),
+          (c.plant_unseen.ensures c.if-not-plant_unseen.false),
     )
 
 pub returns : goal.returns

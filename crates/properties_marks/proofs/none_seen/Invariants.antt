@@ -1,9 +1,5 @@
-use borrow.Author.Tests.{not-false}
-use native.Mathlib.Omega.{arith}
-use mathlib.Core.Bool.{false≢true}
 use Prim.Native.Nat.{ℕ, ◌-◌, ◌≤◌, ◌<◌}
 use Rattle.properties_snapshots.specs.Cluster.{cluster_in}
-use Rattle.properties_snapshots.proofs.Below.{below_more}
 use Rattle.properties_marks.specs.Marks.{NoneSeen}
 use Rattle.properties_marks.proofs.none_seen.Given as goal
 

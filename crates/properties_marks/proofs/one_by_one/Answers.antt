@@ -1,11 +1,8 @@
 -- `properties_marks::one_by_one` meets its contract. The loop's invariant: property 4 holds of what was passed. Assumes nothing.
-use borrow.Author.Tests.{not-false}
 use native.Mathlib.Omega.{arith}
 use mathlib.Core.Bool.{false≢true}
 use mathlib.Core.Path.{sym, ◌∙◌}
-use Prim.Native.Nat.{◌-◌, ◌≤◌}
-use Rattle.properties_snapshots.specs.Cluster.{cluster_in}
-use Rattle.properties_marks.proofs.Walk.{Passed, passed_none, passed_more, passed_all}
+use Rattle.properties_marks.proofs.Walk.{passed_none, passed_more, passed_all}
 use Rattle.properties_marks.proofs.one_by_one.Goals as goal
 
 pub commit_of-commit-requires : goal.commit_of-commit-requires
@@ -49,7 +46,7 @@ loop-i-preserved c = let a = c.args in
     let loop = c.loop-i in (
       omega arith,
       passed_more a.n a.plants.now a.logs.now a.tracker.now pre.0 pre.2 a.r pre.3 loop.i loop.invariant.1
-          (sym c.unseen.ensures ∙ not-false _ c.if-not-unseen.false),
+          (sym c.unseen.ensures ∙ c.if-not-unseen.false),
     )
 
 pub returns : goal.returns

@@ -1,10 +1,6 @@
-use borrow.Author.Tests.{not-false}
-use native.Mathlib.Omega.{arith}
-use mathlib.Core.Bool.{false≢true}
-use mathlib.Core.Path.{sym, ◌∙◌}
 use Prim.Native.Nat.{◌-◌, ◌≤◌}
 use Rattle.properties_snapshots.specs.Cluster.{cluster_in}
-use Rattle.properties_marks.proofs.Walk.{Passed, passed_none, passed_more, passed_all}
+use Rattle.properties_marks.proofs.Walk.{Passed}
 use Rattle.properties_marks.proofs.one_by_one.Given as goal
 
 abbrev pub invariant-loop-i : goal.invariant-loop-i

@@ -1,5 +1,4 @@
 -- `properties_marks::plant_unseen` meets its contract: either way shows it. Assumes nothing.
-use borrow.Author.Rules.{rules}
 use native.Mathlib.Omega.{arith}
 use Rattle.properties_marks.proofs.plant_unseen.Goals as goal
 

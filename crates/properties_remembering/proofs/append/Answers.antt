@@ -13,11 +13,8 @@ use Rattle.properties_snapshots.proofs.Laid.{laid_none, laid_on}
 use Rattle.properties_agreement.specs.Agreement.{committer}
 use Rattle.properties_agreement.proofs.Reached.{committer_below}
 use Rattle.properties_remembering.proofs.Written.{length_words, words_more}
+use Rattle.properties_remembering.proofs.append.Invariants.{source}
 use Rattle.properties_remembering.proofs.append.Goals as goal
-
--- the entry that is appended behind the first k of them
-abbrev source : ℕ → List ℕ → List ℕ → List ℕ → ℕ → ℕ → LogEntry
-source n p l t known k = entry_in l (entry_at (committer (cluster_in n p l t) (known + k)) (known + k))
 
 module _ (n : ℕ) (p l t w : List ℕ) (known i q from to : ℕ) (after : known ≤ i) (room : canonical_at n known + (i - known) * entry_words + entry_words ≤ length w) where
   -- one entry more
@@ -96,7 +93,7 @@ loop-i-preserved c = let pre = c.requires in
     let l = c.loop-i in (
       omega arith,
       omega (arith, loop-test.true),
-      omega (arith, the-copy-entry.auto.1.1.0, l.invariant.2),
+      omega (arith, the-copy-entry.auto.tracker, l.invariant.2),
       λ t.
           the-copy-entry.ensures
           ∙ (ap (λ (x : List ℕ). laid x to.result (words_of_entry (entry_in a.logs.now from.result))) (l.invariant.3 t)

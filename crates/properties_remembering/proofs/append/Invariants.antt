@@ -1,18 +1,17 @@
-use native.Mathlib.Omega.{arith}
-use mathlib.Core.List.{List, [], ◌++◌}
-use mathlib.Core.Path.{◌≡◌, refl, sym, ap, ◌∙◌}
-use Prim.Native.Nat.{ℕ, ◌+◌, ◌-◌, ◌*◌, ◌≤◌, ◌<◌}
+use mathlib.Core.List.{List}
+use mathlib.Core.Path.{◌≡◌}
+use Prim.Native.Nat.{ℕ, ◌+◌, ◌-◌, ◌≤◌}
 use lib.ListN.{length}
 use Rattle.properties_snapshots.specs.Below.{numbered}
-use Rattle.properties_snapshots.specs.Cluster.{LogEntry, words_of_entry, words_of_entries, entry_in, cluster_in}
-use Rattle.basis.specs.Basis.{fewest, laid}
-use Rattle.properties_snapshots.specs.Layout.{entry_words, entry_at, canonical_at}
-use Rattle.properties_snapshots.proofs.Below.{length-numbered, numbered_more, numbered_none}
-use Rattle.properties_snapshots.proofs.Laid.{laid_none, laid_on}
+use Rattle.properties_snapshots.specs.Cluster.{LogEntry, words_of_entries, entry_in, cluster_in}
+use Rattle.basis.specs.Basis.{laid}
+use Rattle.properties_snapshots.specs.Layout.{entry_at, canonical_at}
 use Rattle.properties_agreement.specs.Agreement.{committer}
-use Rattle.properties_agreement.proofs.Reached.{committer_below}
-use Rattle.properties_remembering.proofs.Written.{length_words, words_more}
 use Rattle.properties_remembering.proofs.append.Given as goal
+
+-- the entry that is appended behind the first k of them
+abbrev pub source : ℕ → List ℕ → List ℕ → List ℕ → ℕ → ℕ → LogEntry
+source n p l t known k = entry_in l (entry_at (committer (cluster_in n p l t) (known + k)) (known + k))
 
 abbrev pub invariant-loop-i : goal.invariant-loop-i
 invariant-loop-i l = (l.known ≤ l.i) × (l.i ≤ l.longest) × (length l.tracker ≡ length l.initial.tracker) ×

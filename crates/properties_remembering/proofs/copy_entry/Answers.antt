@@ -2,18 +2,15 @@
 use native.Mathlib.Omega.{arith}
 use mathlib.Core.List.{List}
 use mathlib.Core.Path.{◌≡◌, refl, ap, ◌∙◌}
-use Prim.Native.Nat.{ℕ, ◌+◌, ◌-◌, ◌≤◌}
-use lib.ListN.{length, get_or, set, length-set}
+use Prim.Native.Nat.{ℕ, ◌+◌}
+use lib.ListN.{set, length-set}
 use Rattle.basis.specs.Basis.{laid}
 use Rattle.properties_snapshots.specs.Below.{numbered}
 use Rattle.properties_snapshots.specs.Layout.{entry_words}
 use Rattle.properties_snapshots.proofs.Laid.{laid-numbered, laid_start}
 use Rattle.properties_snapshots.proofs.Same.{entry_words_lem}
+use Rattle.properties_remembering.proofs.copy_entry.Invariants.{word}
 use Rattle.properties_remembering.proofs.copy_entry.Goals as goal
-
--- the word at a place of the entry
-abbrev word : List ℕ → ℕ → ℕ → ℕ
-word l from m = get_or l (from + m) 0
 
 pub loop-k-init : goal.loop-k-init
 loop-k-init c = let a = c.args in (omega arith, refl, laid_start a.tracker.now a.to (word a.logs.now a.from) 0 refl)

@@ -1,13 +1,12 @@
 -- `properties_remembering::length_after` meets its contract. The loop's invariant: the greatest so far. Assumes nothing.
-use borrow.Author.Rules.{rules}
 use native.Mathlib.Omega.{arith}
-use mathlib.Core.Logic.{⊎_elim}
 use mathlib.Core.Path.{◌≡◌, sym, ap, ◌∙◌}
-use Prim.Native.Nat.{ℕ, ◌-◌, ◌≤◌}
+use Prim.Native.Nat.{ℕ}
 use lib.ListN.{get_or}
 use Rattle.properties_snapshots.specs.Below.{max_below}
 use Rattle.properties_snapshots.specs.Layout.{commit_at}
 use Rattle.properties_snapshots.proofs.Below.{max_none, max_more}
+use Rattle.properties_remembering.proofs.length_after.Goals.{then-longest-commit, else-longest-commit}
 use Rattle.properties_remembering.proofs.length_after.Goals as goal
 
 pub loop-r-init : goal.loop-r-init
@@ -24,8 +23,13 @@ pub loop-r-preserved : goal.loop-r-preserved
 loop-r-preserved c = let commit = c.commit_of-commit in
     let a = c.args in
     let l = c.loop-r in
-    let m = max_more l.r (λ k. get_or a.plants.now (commit_at k) 0) a.known in
-    (omega arith, ⊎_elim (λ w. omega (arith, m, l.invariant.1, commit.ensures)) (λ w. omega (arith, m, l.invariant.1, commit.ensures)) c.if-longest-commit.branch)
+    let m = max_more l.r (λ k. get_or a.plants.now (commit_at k) 0) a.known in (
+      omega arith,
+      elim c.if-longest-commit.branch [
+        | then-longest-commit w ↦ omega (arith, m, l.invariant.1, commit.ensures)
+        | else-longest-commit w ↦ omega (arith, m, l.invariant.1, commit.ensures)
+      ],
+    )
 
 pub returns : goal.returns
 returns c = let a = c.args in

@@ -1,12 +1,8 @@
-use borrow.Author.Rules.{rules}
-use native.Mathlib.Omega.{arith}
-use mathlib.Core.Logic.{⊎_elim}
-use mathlib.Core.Path.{◌≡◌, sym, ap, ◌∙◌}
-use Prim.Native.Nat.{ℕ, ◌-◌, ◌≤◌}
+use mathlib.Core.Path.{◌≡◌}
+use Prim.Native.Nat.{◌-◌, ◌≤◌}
 use lib.ListN.{get_or}
 use Rattle.properties_snapshots.specs.Below.{max_below}
 use Rattle.properties_snapshots.specs.Layout.{commit_at}
-use Rattle.properties_snapshots.proofs.Below.{max_none, max_more}
 use Rattle.properties_remembering.proofs.length_after.Given as goal
 
 abbrev pub invariant-loop-r : goal.invariant-loop-r

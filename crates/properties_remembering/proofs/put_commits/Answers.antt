@@ -1,19 +1,16 @@
 -- `properties_remembering::put_commits` meets its contract. The loop's invariant: behind the length, the commits of the plants passed are laid. Assumes
 -- nothing.
-use borrow.Author.Rules.{rules}
 use native.Mathlib.Omega.{arith}
 use mathlib.Core.List.{List}
 use mathlib.Core.Path.{◌≡◌, refl, ap, ◌∙◌}
-use Prim.Native.Nat.{ℕ, ◌-◌, ◌≤◌}
-use lib.ListN.{length, get_or, set, length-set}
+use Prim.Native.Nat.{ℕ}
+use lib.ListN.{set, length-set}
 use Rattle.properties_snapshots.specs.Below.{numbered}
 use Rattle.basis.specs.Basis.{laid}
-use Rattle.properties_snapshots.specs.Layout.{commit_at, length_at, lasts_at}
+use Rattle.properties_snapshots.specs.Layout.{length_at, lasts_at}
 use Rattle.properties_snapshots.proofs.Laid.{laid-numbered, laid_start, laid_first}
+use Rattle.properties_remembering.proofs.put_commits.Invariants.{commits}
 use Rattle.properties_remembering.proofs.put_commits.Goals as goal
-
-abbrev commits : List ℕ → ℕ → ℕ
-commits p r = get_or p (commit_at r) 0
 
 pub bounds-tracker-1 : goal.bounds-tracker-1
 bounds-tracker-1 c = omega arith

@@ -4,8 +4,8 @@ use native.Mathlib.Omega.{arith}
 use native.Mathlib.Numerals.{add-one}
 use mathlib.Core.List.{List}
 use mathlib.Core.Path.{◌≡◌, refl, ap, ◌∙◌}
-use Prim.Native.Nat.{ℕ, ◌+◌, ◌-◌, ◌≤◌, ◌<◌}
-use lib.ListN.{length, get_or}
+use Prim.Native.Nat.{ℕ, ◌+◌, ◌-◌, ◌<◌}
+use lib.ListN.{get_or}
 use Rattle.properties_snapshots.specs.Below.{numbered}
 use Rattle.properties_snapshots.specs.Cluster.{cluster_in}
 use Rattle.basis.specs.Basis.{laid}
@@ -79,7 +79,7 @@ loop-r-preserved c = let pre = c.requires in
     let e = the_last.ensures ∙ last_kept a.n a.plants.now a.logs.now a.tracker.now pre.0 pre.1 pre.2 loop.r h
     loop.tracker loop.invariant.2 in (
       omega (arith, h),
-      the-put-plant-ids.auto.1.1.1.1.1.0 ∙ loop.invariant.1,
+      the-put-plant-ids.auto.tracker ∙ loop.invariant.1,
       another a.n a.plants.now a.logs.now a.tracker.now pre.0 pre.1 pre.2 loop.r h loop.tracker _ _ _ loop.invariant.2 e
           the-commit.ensures the-put-plant-ids.ensures,
     )

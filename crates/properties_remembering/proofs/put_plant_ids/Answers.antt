@@ -1,19 +1,15 @@
 -- `properties_remembering::put_plant_ids` meets its contract. The loop's invariant: the ids of the entries passed are laid. Assumes nothing.
-use borrow.Author.Rules.{rules}
 use native.Mathlib.Omega.{arith}
 use mathlib.Core.List.{List}
 use mathlib.Core.Path.{◌≡◌, refl, ap, ◌∙◌}
 use Prim.Native.Nat.{ℕ, ◌+◌, ◌-◌, ◌≤◌}
-use lib.ListN.{length, get_or, set, length-set}
+use lib.ListN.{get_or, set, length-set}
 use Rattle.properties_snapshots.specs.Below.{numbered}
-use Rattle.properties_snapshots.specs.Cluster.{last}
 use Rattle.basis.specs.Basis.{laid}
 use Rattle.properties_snapshots.specs.Layout.{id_at, entry_at, seen_at}
 use Rattle.properties_snapshots.proofs.Laid.{laid-numbered, laid_start}
+use Rattle.properties_remembering.proofs.put_plant_ids.Invariants.{ids}
 use Rattle.properties_remembering.proofs.put_plant_ids.Goals as goal
-
-abbrev ids : List ℕ → ℕ → ℕ → ℕ → ℕ
-ids l r from k = get_or l (id_at (entry_at r (from + k))) 0
 
 -- the id of the entry at i is the one of its place behind the first
 same : (l : List ℕ) (r from i : ℕ) → from ≤ i → get_or l (id_at (entry_at r i)) 0 ≡ ids l r from (i - from)

@@ -1,15 +1,14 @@
-use borrow.Author.Rules.{rules}
-use native.Mathlib.Omega.{arith}
 use mathlib.Core.List.{List}
-use mathlib.Core.Path.{◌≡◌, refl, ap, ◌∙◌}
+use mathlib.Core.Path.{◌≡◌}
 use Prim.Native.Nat.{ℕ, ◌+◌, ◌-◌, ◌≤◌}
-use lib.ListN.{length, get_or, set, length-set}
+use lib.ListN.{length, get_or}
 use Rattle.properties_snapshots.specs.Below.{numbered}
-use Rattle.properties_snapshots.specs.Cluster.{last}
 use Rattle.basis.specs.Basis.{laid}
 use Rattle.properties_snapshots.specs.Layout.{id_at, entry_at, seen_at}
-use Rattle.properties_snapshots.proofs.Laid.{laid-numbered, laid_start}
 use Rattle.properties_remembering.proofs.put_plant_ids.Given as goal
+
+abbrev pub ids : List ℕ → ℕ → ℕ → ℕ → ℕ
+ids l r from k = get_or l (id_at (entry_at r (from + k))) 0
 
 abbrev pub invariant-loop-i : goal.invariant-loop-i
 invariant-loop-i l = (l.last ≤ l.i) × (l.i ≤ l.commit) × (length l.tracker ≡ length l.initial.tracker) ×

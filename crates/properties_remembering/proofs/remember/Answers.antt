@@ -1,5 +1,4 @@
 -- `properties_remembering::remember` meets its contract: the three parts are written one after the other, from what came. Assumes nothing.
-use borrow.Author.Rules.{rules}
 use native.Mathlib.Omega.{arith}
 use mathlib.Core.List.{List, ◌∷◌}
 use mathlib.Core.Path.{◌≡◌, sym, ap, ◌∙◌}
@@ -58,7 +57,7 @@ append-requires c = let pre = c.requires in
     let a = c.args in
     let e = the_number.ensures in
     let r = reach a.n a.plants.now a.logs.now a.tracker.now pre.0 pre.1 pre.2 the-length-after.result
-    (the-length-after.ensures ∙ ap (max_below a.n (λ r. get_or a.plants.now (commit_at r) 0)) e) in record { fewest_le_n = (pre.0.some, pre.0.few, pre.0.plants, pre.0.logs, c.put_ids.auto.1.1.1.0 ∙ pre.1.words); known_le_longest = (omega (arith, r.0, e), r.1) }
+    (the-length-after.ensures ∙ ap (max_below a.n (λ r. get_or a.plants.now (commit_at r) 0)) e) in record { fewest_le_n = (pre.0.some, pre.0.few, pre.0.plants, pre.0.logs, c.put_ids.auto.tracker ∙ pre.1.words); known_le_longest = (omega (arith, r.0, e), r.1) }
 
 pub returns : goal.returns
 returns c = let pre = c.requires in

@@ -1,11 +1,10 @@
 -- `properties_snapshots::lasts_fit` meets its contract. The loop's invariant: the test holds of every plant passed. Assumes nothing.
-use borrow.Author.Rules.{rules}
 use borrow.Author.Tests.{le-leb, lt-leb}
 use native.Mathlib.Omega.{arith}
 use mathlib.Core.Bool.{Bool, true, false}
 use mathlib.Core.List.{List}
 use mathlib.Core.Path.{◌≡◌, sym, ap, ◌∙◌}
-use Prim.Native.Nat.{ℕ, ◌-◌, ◌≤◌, ◌<◌}
+use Prim.Native.Nat.{ℕ, ◌<◌}
 use lib.Dec.{leb}
 use lib.ListN.{get_or}
 use Rattle.properties_snapshots.specs.Below.{all_below}

@@ -1,11 +1,10 @@
 -- `properties_snapshots::plants_fit` meets its contract. The loop's invariant: the tests hold of every plant passed. Assumes nothing.
-use borrow.Author.Rules.{rules}
 use borrow.Author.Tests.{le-leb, lt-leb}
 use native.Mathlib.Omega.{arith}
 use mathlib.Core.Bool.{Bool, true, false, ◌&&◌}
 use mathlib.Core.List.{List}
 use mathlib.Core.Path.{◌≡◌, sym, ap, ◌∙◌}
-use Prim.Native.Nat.{ℕ, ◌-◌, ◌≤◌, ◌<◌}
+use Prim.Native.Nat.{ℕ, ◌≤◌, ◌<◌}
 use lib.Dec.{leb}
 use lib.ListN.{get_or}
 use Rattle.properties_snapshots.specs.Below.{all_below}
@@ -45,7 +44,7 @@ pub returns-then-size_of-gt-ENTRIES : goal.returns-then-size_of-gt-ENTRIES
 returns-then-size_of-gt-ENTRIES c = let args = c.args in
     let loop = c.loop-r in
     let loop-test = c.loop-r-test in
-    long args.n loop.r args.plants.now loop-test.true (omega (arith, c.recovering_of.ensures, c.if-recovering_of-gt1.false)) (omega (arith, c.before.type_size.ensures))
+    long args.n loop.r args.plants.now loop-test.true (omega (arith, c.recovering_of.ensures, c.if-recovering_of-gt1.false)) (omega (arith, c.size_of.ensures))
 
 pub overflow_add-r : goal.overflow_add-r
 overflow_add-r c = omega arith
@@ -58,7 +57,7 @@ loop-r-preserved c = let a = c.args in
     let l = c.loop-r in (
       omega arith,
       all_more l.r (good a.plants.now) l.invariant.1 (more a.n l.r a.plants.now
-          (omega (arith, c.recovering_of.ensures, c.if-recovering_of-gt1.false)) (omega (arith, c.before.type_size.ensures))),
+          (omega (arith, c.recovering_of.ensures, c.if-recovering_of-gt1.false)) (omega (arith, c.size_of.ensures))),
     )
 
 pub returns : goal.returns

@@ -1,5 +1,4 @@
 -- `properties_snapshots::snapshot_fits` meets its contract: each answer is a test of the definition. Assumes nothing.
-use borrow.Author.Rules.{rules}
 use borrow.Author.Tests.{eq-eqb, ne_eqb}
 use mathlib.Core.Path.{◌∙◌}
 use Prim.Native.Nat.{◌*◌}

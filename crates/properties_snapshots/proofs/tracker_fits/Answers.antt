@@ -1,5 +1,4 @@
 -- `properties_snapshots::tracker_fits` meets its contract: each answer is a test of the definition. Assumes nothing.
-use borrow.Author.Rules.{rules}
 use borrow.Author.Tests.{le-leb, lt-leb, eq-eqb, ne_eqb}
 use native.Mathlib.Omega.{arith}
 use mathlib.Core.Bool.{false}

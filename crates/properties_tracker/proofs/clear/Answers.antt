@@ -3,7 +3,7 @@ use borrow.Author.Fill.{fill_none, fill_more}
 use native.Mathlib.Omega.{arith}
 use mathlib.Core.List.{List, ◌++◌, append-nil}
 use mathlib.Core.Path.{◌≡◌, refl, ap, ◌∙◌}
-use Prim.Native.Nat.{ℕ, ◌-◌, ◌≤◌}
+use Prim.Native.Nat.{ℕ}
 use lib.ListN.{length, set, drop, replicate, length-set, drop_of_length-le}
 use Rattle.properties_tracker.proofs.clear.Goals as goal
 

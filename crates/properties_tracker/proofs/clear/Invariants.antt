@@ -1,9 +1,7 @@
-use borrow.Author.Fill.{fill_none, fill_more}
-use native.Mathlib.Omega.{arith}
-use mathlib.Core.List.{List, ◌++◌, append-nil}
-use mathlib.Core.Path.{◌≡◌, refl, ap, ◌∙◌}
-use Prim.Native.Nat.{ℕ, ◌-◌, ◌≤◌}
-use lib.ListN.{length, set, drop, replicate, length-set, drop_of_length-le}
+use mathlib.Core.List.{◌++◌}
+use mathlib.Core.Path.{◌≡◌}
+use Prim.Native.Nat.{◌-◌, ◌≤◌}
+use lib.ListN.{length, drop, replicate}
 use Rattle.properties_tracker.proofs.clear.Given as goal
 
 abbrev pub invariant-loop-k : goal.invariant-loop-k

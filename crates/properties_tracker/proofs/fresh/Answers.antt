@@ -1,6 +1,5 @@
 -- `properties_tracker::fresh` meets its contract: all words are cleared, and the first is set. Assumes nothing.
-use borrow.Author.Rules.{rules}
-use borrow.Author.Tests.{not-true, not-false, eq-eqb, ne_eqb}
+use borrow.Author.Tests.{eq-eqb, ne_eqb}
 use native.Mathlib.Omega.{arith}
 use mathlib.Core.Bool.{true, false}
 use mathlib.Core.List.{List}
@@ -34,13 +33,13 @@ module _ (n : ℕ) (t : List ℕ) where
       )
 
 pub returns-then-not-plant_count : goal.returns-then-not-plant_count
-returns-then-not-plant_count c = let args = c.args in let told = miscounted args.n args.tracker.now (sym c.plant_count.ensures ∙ not-true _ c.if-not-plant_count.true) in record { answer = told.0; words = told.1 }
+returns-then-not-plant_count c = let args = c.args in let told = miscounted args.n args.tracker.now (sym c.plant_count.ensures ∙ c.if-not-plant_count.true) in record { answer = told.0; words = told.1 }
 
 pub tracker_words-requires : goal.tracker_words-requires
-tracker_words-requires c = (between c.args.n (sym c.plant_count.ensures ∙ not-false _ c.if-not-plant_count.false)).1
+tracker_words-requires c = (between c.args.n (sym c.plant_count.ensures ∙ c.if-not-plant_count.false)).1
 
 pub returns-then-tracker-tracker_words : goal.returns-then-tracker-tracker_words
-returns-then-tracker-tracker_words c = let args = c.args in let told = other_length args.n args.tracker.now (sym c.plant_count.ensures ∙ not-false _ c.if-not-plant_count.false)
+returns-then-tracker-tracker_words c = let args = c.args in let told = other_length args.n args.tracker.now (sym c.plant_count.ensures ∙ c.if-not-plant_count.false)
     (λ e. c.if-tracker-tracker_words.true (e ∙ sym c.tracker_words.ensures)) in record { answer = told.0; words = told.1 }
 
 pub returns : goal.returns
@@ -49,5 +48,5 @@ returns c = let args = c.args in
     let if1 = c.if-not-plant_count in
     let the-tracker-words = c.tracker_words in
     let if2 = c.if-tracker-tracker_words in
-    let the-clear = c.clear in let told = cleared args.n args.tracker.now the-clear.new.0 (sym the-plant-count.ensures ∙ not-false _ if1.false)
+    let the-clear = c.clear in let told = cleared args.n args.tracker.now the-clear.new.words (sym the-plant-count.ensures ∙ if1.false)
     (if2.false ∙ the-tracker-words.ensures) the-clear.ensures in record { answer = told.0; words = told.1 }

@@ -1,6 +1,5 @@
 -- `properties_tracker::reboot` meets its contract: one word is set. Assumes nothing.
-use borrow.Author.Rules.{rules}
-use borrow.Author.Tests.{not-true, not-false, lt-ltb, le-ltb}
+use borrow.Author.Tests.{lt-ltb, le-ltb}
 use native.Mathlib.Omega.{arith}
 use mathlib.Core.Bool.{true, false}
 use mathlib.Core.List.{List}
@@ -35,41 +34,41 @@ module _ (n id : ℕ) (t : List ℕ) where
   restarted e h f = (rw (e, lt-ltb id n h, f), rw (e, lt-ltb id n h, f))
 
 pub returns-then-not-plant_count : goal.returns-then-not-plant_count
-returns-then-not-plant_count c = let args = c.args in let told = miscounted args.n args.id args.tracker.now (sym c.plant_count.ensures ∙ not-true _ c.if-not-plant_count.true) in record { answer = told.0; words = told.1 }
+returns-then-not-plant_count c = let args = c.args in let told = miscounted args.n args.id args.tracker.now (sym c.plant_count.ensures ∙ c.if-not-plant_count.true) in record { answer = told.0; words = told.1 }
 
 pub returns-then-n-id : goal.returns-then-n-id
-returns-then-n-id c = let args = c.args in let told = unknown args.n args.id args.tracker.now (sym c.plant_count.ensures ∙ not-false _ c.if-not-plant_count.false) c.if-n-id.true in record { answer = told.0; words = told.1 }
+returns-then-n-id c = let args = c.args in let told = unknown args.n args.id args.tracker.now (sym c.plant_count.ensures ∙ c.if-not-plant_count.false) c.if-n-id.true in record { answer = told.0; words = told.1 }
 
 pub tracker_fits-requires : goal.tracker_fits-requires
 tracker_fits-requires c = let args = c.args in
-    (between args.n (sym c.plant_count.ensures ∙ not-false _ c.if-not-plant_count.false)).1
+    (between args.n (sym c.plant_count.ensures ∙ c.if-not-plant_count.false)).1
 
 pub returns-then-not-tracker_fits : goal.returns-then-not-tracker_fits
 returns-then-not-tracker_fits c = let args = c.args in
     let the-plant-count = c.plant_count in
-    let if1 = c.if-not-plant_count in let told = untracked args.n args.id args.tracker.now (sym the-plant-count.ensures ∙ not-false _ if1.false)
-    c.if-n-id.false (sym c.tracker_fits.ensures ∙ not-true _ c.if-not-tracker_fits.true) in record { answer = told.0; words = told.1 }
+    let if1 = c.if-not-plant_count in let told = untracked args.n args.id args.tracker.now (sym the-plant-count.ensures ∙ if1.false)
+    c.if-n-id.false (sym c.tracker_fits.ensures ∙ c.if-not-tracker_fits.true) in record { answer = told.0; words = told.1 }
 
 pub last_at-requires : goal.last_at-requires
 last_at-requires c = let args = c.args in
     let the-plant-count = c.plant_count in
     let if1 = c.if-not-plant_count in
-    omega (arith, (between args.n (sym the-plant-count.ensures ∙ not-false _ if1.false)).1)
+    omega (arith, (between args.n (sym the-plant-count.ensures ∙ if1.false)).1)
 
 pub offset_bounds-tracker-last_at : goal.offset_bounds-tracker-last_at
 offset_bounds-tracker-last_at c = let args = c.args in
     let the-plant-count = c.plant_count in
     let if1 = c.if-not-plant_count in
-    omega (arith, c.last_at.ensures, (between args.n (sym the-plant-count.ensures ∙ not-false _ if1.false)).1)
+    omega (arith, c.last_at.ensures, (between args.n (sym the-plant-count.ensures ∙ if1.false)).1)
 
 pub bounds-tracker-last_at : goal.bounds-tracker-last_at
 bounds-tracker-last_at c = let args = c.args in
-    let fits = sym c.tracker_fits.ensures ∙ not-false _ c.if-not-tracker_fits.false in
+    let fits = sym c.tracker_fits.ensures ∙ c.if-not-tracker_fits.false in
     omega (arith, c.last_at.ensures, (tracker_known args.n args.tracker.now fits).words)
 
 pub returns : goal.returns
 returns c = let args = c.args in
     let the-plant-count = c.plant_count in
     let if1 = c.if-not-plant_count in
-    let r = restarted args.n args.id args.tracker.now (sym the-plant-count.ensures ∙ not-false _ if1.false)
-    c.if-n-id.false (sym c.tracker_fits.ensures ∙ not-false _ c.if-not-tracker_fits.false) in record { answer = r.0; words = ap (λ (k : ℕ). set args.tracker.now k 0) c.last_at.ensures ∙ r.1 }
+    let r = restarted args.n args.id args.tracker.now (sym the-plant-count.ensures ∙ if1.false)
+    c.if-n-id.false (sym c.tracker_fits.ensures ∙ c.if-not-tracker_fits.false) in record { answer = r.0; words = ap (λ (k : ℕ). set args.tracker.now k 0) c.last_at.ensures ∙ r.1 }
