@@ -40,14 +40,14 @@ is_formed : (c : tie.After-formed) (b : Bool) → c.formed.result ≡ b → form
 is_formed c b e = ap (λ (h : Head). formed_in h (tested c).args.records.now) (sym (head_is c)) ∙ (sym c.formed.ensures ∙ e)
 
 well : (c : tie.Else-not-formed) → formed_in (head_in (tested c.before).args.head.now) (tested c.before).args.records.now ≡ true
-well c = is_formed c.before true (not-false _ c.if-not-formed.false)
+well c = is_formed c.before true c.if-not-formed.false
 
 -- ---- the messages were sent
 abbrev else2 : tie.After-send_all-run → tie.Else-not-formed
 else2 x = x.before.before.before.before.before
 
 abbrev else1 : tie.After-send_all-run → tie.Else-not-loaded
-else1 x = (else2 x).before.before.before.before.before
+else1 x = (else2 x).before.before.before.before
 
 abbrev start : tie.After-send_all-run → tie.Start
 start x = read (else1 x)
@@ -62,14 +62,14 @@ even : (x : tie.After-send_all-run) → length (start x).args.sends.now ≡ mess
 even x = omega (arith, x.if-count-sends.false)
 
 sends_are : (x : tie.After-send_all-run) → let a = (start x).args in
-    ran_of x.send_all-run.result x.send_all-run.new.0 ≡ sends_from a.sends.now a.draws.now a.extras.now (length a.sends.now / message_words) 0 0 0 (head_in a.head.now) a.records.now
+    ran_of x.send_all-run.result x.send_all-run.new.records ≡ sends_from a.sends.now a.draws.now a.extras.now (length a.sends.now / message_words) 0 0 0 (head_in a.head.now) a.records.now
 sends_are x =
     let a = (start x).args in
     x.send_all-run.ensures.0
     ∙ ap (λ (h : Head). sends_from a.sends.now a.draws.now a.extras.now (length a.sends.now / message_words) 0 0 0 h a.records.now) (head_is (else2 x).before)
 
 ran : (x : tie.After-send_all-run) → let a = (start x).args in
-    ran_of x.send_all-run.result x.send_all-run.new.0 ≡ batch_ran a.head.now a.records.now a.sends.now a.draws.now a.extras.now
+    ran_of x.send_all-run.result x.send_all-run.new.records ≡ batch_ran a.head.now a.records.now a.sends.now a.draws.now a.extras.now
 ran x =
     let a = (start x).args in
     sends_are x
@@ -83,13 +83,13 @@ stopping x n =
 whole_before : (x : tie.After-send_all-run) → Whole (loaded x) (start x).args.records.now
 whole_before x =
     let y = else2 x in
-    record { formed = sym y.formed.ensures ∙ not-false _ y.if-not-formed.left; long = y.whole.ensures }
+    record { formed = sym y.formed.ensures ∙ y.if-not-formed.false; long = y.whole.ensures }
 
 -- without the newer records there is what came
-came : (x : tie.After-send_all-run) (z : List ℕ) → z ≡ packed (keep (up_to (loaded x).seq) (recs x.send_all-run.new.0 0 x.send_all-run.result.head.pending))
+came : (x : tie.After-send_all-run) (z : List ℕ) → z ≡ packed (keep (up_to (loaded x).seq) (recs x.send_all-run.new.records 0 x.send_all-run.result.head.pending))
     → z ≡ (start x).args.records.now
 came x z p =
-    undone (loaded x) (start x).args.records.now x.send_all-run.result.head x.send_all-run.new.0 (whole_before x) x.send_all-run.ensures.1.1 z p
+    undone (loaded x) (start x).args.records.now x.send_all-run.result.head x.send_all-run.new.records (whole_before x) x.send_all-run.ensures.1.1 z p
 
 load-requires : tie.Need-load-loaded-requires
 load-requires c κs = search rules
@@ -118,7 +118,7 @@ returns-2 c =
     let y = c.before.before.before in
     let a = (tested y).args in
     unsent_run _ _ _ 23 0 c.unsent-then-not-formed.ensures
-    (ill_formed a.head.now a.records.now a.sends.now a.draws.now a.extras.now (fits y.before.before.before) (is_formed y false (not-true _ c.if-not-formed.true)))
+    (ill_formed a.head.now a.records.now a.sends.now a.draws.now a.extras.now (fits y.before.before.before) (is_formed y false c.if-not-formed.true))
     (λ z. omega arith) (omega arith) (omega arith)
 
 unsent-requires-3 : tie.Need-unsent-requires-then-count-gt-MOST
@@ -151,7 +151,7 @@ send-all-requires : tie.Need-send_all-run-requires
 send-all-requires c κs =
     let e = c.before in
     let y = e.before.before in
-    (y.whole.ensures, sym y.formed.ensures ∙ not-false _ y.if-not-formed.false, omega (arith, e.if-count-sends.false))
+    (y.whole.ensures, sym y.formed.ensures ∙ y.if-not-formed.false, omega (arith, e.if-count-sends.false))
 
 take-back-requires : tie.Need-take_back-requires
 take-back-requires c κs = c.send_all-run.ensures.1.0
@@ -179,7 +179,7 @@ returns-6 c =
         λ _. (
           w.0,
           w.1,
-          ap (λ (h : Head). packed (keep (up_to h.seq) (recs x.send_all-run.new.0 0 x.send_all-run.result.head.pending))) (sym (head_is (else2 x).before)) ∙ came x _ refl,
+          ap (λ (h : Head). packed (keep (up_to h.seq) (recs x.send_all-run.new.records 0 x.send_all-run.result.head.pending))) (sym (head_is (else2 x).before)) ∙ came x _ refl,
         ),
       ),
     )

@@ -66,7 +66,7 @@ left_extras c = rest (start c).args.extras.now (at c).loop-i.added
 abbrev Made : (c : tie.After-send_on-sent invariant-loop decreases-loop) (m : Letter) (draws extras : List ℕ) → Type 0
 Made c m draws extras =
     (c.send_on-sent.result.head ≡ head_after (send m draws extras) (me c) (words c))
-    × ((c.send_on-sent.new.0 ≡ records_after (send m draws extras) (me c) (words c))
+    × ((c.send_on-sent.new.w ≡ records_after (send m draws extras) (me c) (words c))
     × (sent_of c.send_on-sent.result.answer ≡ send_tells m draws extras (me c) (words c)))
 
 -- it was that of the message at the place, with what is left of the draws and extras
@@ -79,26 +79,26 @@ made c =
     (rw (left_draws c, left_extras c) at c.send_on-sent.ensures)
 
 -- ---- and accepted
-abbrev sent : tie.In-Accepted-2 invariant-loop decreases-loop → tie.After-send_on-sent invariant-loop decreases-loop
-sent c = c.before.before
+abbrev sent : tie.In-Accepted invariant-loop decreases-loop → tie.After-send_on-sent invariant-loop decreases-loop
+sent c = c.before
 
-accepted : (c : tie.In-Accepted-2 invariant-loop decreases-loop) → answer_in (call (sent c)) (me (sent c)) (words (sent c)) ≡ done
-accepted c = sent_done _ _ _ (made (sent c)).1.1 _ _ _ _ c.answer-in-Accepted-1.given.1
+accepted : (c : tie.In-Accepted invariant-loop decreases-loop) → answer_in (call (sent c)) (me (sent c)) (words (sent c)) ≡ done
+accepted c = sent_done _ _ _ (made (sent c)).1.1 _ _ _ _ c.in-Accepted.is
 
-more_draws : (c : tie.In-Accepted-2 invariant-loop decreases-loop) → c.answer-in-Accepted-1.given.0.1.1.0 ≡ (used (sent c)).draws
-more_draws c = ap (λ (l : List ℕ). get_or l 2 0) (sent_told _ _ _ (made (sent c)).1.1 _ _ _ _ c.answer-in-Accepted-1.given.1)
+more_draws : (c : tie.In-Accepted invariant-loop decreases-loop) → c.in-Accepted.used ≡ (used (sent c)).draws
+more_draws c = ap (λ (l : List ℕ). get_or l 2 0) (sent_told _ _ _ (made (sent c)).1.1 _ _ _ _ c.in-Accepted.is)
 
-more_extras : (c : tie.In-Accepted-2 invariant-loop decreases-loop) → c.answer-in-Accepted-1.given.0.1.1.1.0 ≡ (used (sent c)).extras
-more_extras c = ap (λ (l : List ℕ). get_or l 3 0) (sent_told _ _ _ (made (sent c)).1.1 _ _ _ _ c.answer-in-Accepted-1.given.1)
+more_extras : (c : tie.In-Accepted invariant-loop decreases-loop) → c.in-Accepted.more ≡ (used (sent c)).extras
+more_extras c = ap (λ (l : List ℕ). get_or l 3 0) (sent_told _ _ _ (made (sent c)).1.1 _ _ _ _ c.in-Accepted.is)
 
-modestly : (c : tie.In-Accepted-2 invariant-loop decreases-loop) → Modest (drop (at (sent c)).loop-i.drawn (start (sent c)).args.draws.now) (drop (at (sent c)).loop-i.added (start (sent c)).args.extras.now) (used (sent c))
+modestly : (c : tie.In-Accepted invariant-loop decreases-loop) → Modest (drop (at (sent c)).loop-i.drawn (start (sent c)).args.draws.now) (drop (at (sent c)).loop-i.added (start (sent c)).args.extras.now) (used (sent c))
 modestly c = modest _ _ _ _ _
 
-drawn_within : (c : tie.In-Accepted-2 invariant-loop decreases-loop) → (at (sent c)).loop-i.drawn + c.answer-in-Accepted-1.given.0.1.1.0 ≤ length (start (sent c)).args.draws.now
+drawn_within : (c : tie.In-Accepted invariant-loop decreases-loop) → (at (sent c)).loop-i.drawn + c.in-Accepted.used ≤ length (start (sent c)).args.draws.now
 drawn_within c =
     within_left (start (sent c)).args.draws.now _ _ _ (at (sent c)).loop-i.invariant.1.1.0 (more_draws c) (modestly c).draws_within
 
-added_within : (c : tie.In-Accepted-2 invariant-loop decreases-loop) → (at (sent c)).loop-i.added + c.answer-in-Accepted-1.given.0.1.1.1.0 ≤ length (start (sent c)).args.extras.now
+added_within : (c : tie.In-Accepted invariant-loop decreases-loop) → (at (sent c)).loop-i.added + c.in-Accepted.more ≤ length (start (sent c)).args.extras.now
 added_within c =
     within_left (start (sent c)).args.extras.now _ _ _ (at (sent c)).loop-i.invariant.1.1.1.0 (more_extras c) (modestly c).extras_within
 
@@ -129,10 +129,6 @@ mul-send-on-2 c = omega arith
 sub-send-on-2 : tie.Need-slice_bounds-send_on-count-in-loop-i invariant-loop decreases-loop
 sub-send-on-2 c = omega arith
 
--- left: part-send-on-start-2 : tie.Need-slice-bounds-send-on-start-2 invariant-loop decreases-loop
--- part-send-on-start-2 c =  omega arith
--- left: part-send-on-end-2 : tie.Need-slice-bounds-send-on-end-2 invariant-loop decreases-loop
--- part-send-on-end-2 c =  omega arith
 send-on-requires : tie.Need-send_on-sent-requires invariant-loop decreases-loop
 send-on-requires c κs =
     let l = c.before.before.before.before.before in
@@ -146,14 +142,13 @@ number-of-requires c κs = search rules
 
 returns : tie.Need-returns-in-Refused invariant-loop decreases-loop
 returns c =
-    let x = c.before.before.before.before in
+    let x = c.before.before in
     let l = (at x).loop-i in
     let a = (start x).args in
-    let r = c.answer-1.given in
-    let no = sent_refused _ _ _ (made x).1.1 _ c.answer-1.given.1 in
+    let no = sent_refused _ _ _ (made x).1.1 _ c.in-Refused.is in
     let same = (made x).1.0 ∙ sym (records_stay (me x) (words x) (call x) _ no) in
-    let w : Whole (me x) x.send_on-sent.new.0 = whole_again _ _ _ _ refl same l.invariant.1.0 in (
-      ran_stopped _ _ (λ z. number_over c.answer-1.given.0.0 (sym c.number_of.ensures ∙ z))
+    let w : Whole (me x) x.send_on-sent.new.w = whole_again _ _ _ _ refl same l.invariant.1.0 in (
+      ran_stopped _ _ (λ z. number_over c.in-Refused.refusal (sym c.number_of.ensures ∙ z))
           ∙ (ap (λ (k : ℕ). stopped k l.i) c.number_of.ensures
           ∙ sym
           (l.invariant.1.1.1.1.0
@@ -165,24 +160,24 @@ enum-known-answer-2 : tie.Need-enum_known-answer-in-Accepted-1 invariant-loop de
 enum-known-answer-2 c = search rules
 
 add-drawn : tie.Need-overflow_add-drawn invariant-loop decreases-loop
-add-drawn c = omega (arith, drawn_within c.before.before, (start (sent c.before.before)).good)
+add-drawn c = omega (arith, drawn_within c.before, (start (sent c.before)).well_formed)
 
 add-added : tie.Need-overflow_add-added invariant-loop decreases-loop
-add-added c = omega (arith, added_within c.before.before, (start (sent c.before.before)).good)
+add-added c = omega (arith, added_within c.before, (start (sent c.before)).well_formed)
 
 add-i : tie.Need-overflow_add-i invariant-loop decreases-loop
-add-i c = let x = sent c.before.before in omega (arith, (in-loop x).loop-i-test.taken, (start x).good)
+add-i c = let x = sent c.before in omega (arith, (in-loop x).loop-i-test.true, (start x).well_formed)
 
 loop-less : tie.Need-loop-i-smaller invariant-loop decreases-loop
 loop-less c = omega arith
 
 loop-again : tie.Need-loop-i-preserved invariant-loop decreases-loop
 loop-again c =
-    let y = c.before.before in
+    let y = c.before in
     let x = sent y in
     let l = (at x).loop-i in
     let a = (start x).args in
-    let t : l.i + 1 ≤ a.count = omega (arith, (in-loop x).loop-i-test.taken) in (
+    let t : l.i + 1 ≤ a.count = omega (arith, (in-loop x).loop-i-test.true) in (
       t,
       (
         whole_again _ _ _ _ (made x).0 (made x).1.0 (stays_whole (call x) (me x) (words x) (accepted y)),
@@ -192,7 +187,7 @@ loop-again c =
             added_within y,
             (
               l.invariant.1.1.1.1.0
-                  ∙ turn_goes a.sends.now a.draws.now a.extras.now a.count l.i l.drawn l.added (me x) (words x) (in-loop x).loop-i-test.taken (accepted y) _ _ (more_draws y) (more_extras y) _ _ (made x).0 (made x).1.0,
+                  ∙ turn_goes a.sends.now a.draws.now a.extras.now a.count l.i l.drawn l.added (me x) (words x) (in-loop x).loop-i-test.true (accepted y) _ _ (more_draws y) (more_extras y) _ _ (made x).0 (made x).1.0,
               older_again _ _ _ _ _ _ (made x).0 (made x).1.0 (one_more _ _ _ _ l.invariant.1.1.1.1.1 _ _ _ (accepted y)),
             ),
           ),

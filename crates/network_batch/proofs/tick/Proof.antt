@@ -35,7 +35,7 @@ abbrev sent : tie.Else-run-ne0 → tie.After-run_sends-run
 sent c = c.before.before
 
 all_sent : (c : tie.Else-run-ne0) → let x = sent c in let a = (start x).args in let t = x.run_sends-run.result in
-    batch_ran a.head.now a.records.now a.sends.now a.draws.now a.extras.now ≡ all t.head x.run_sends-run.new.1.0 t.draws t.extras
+    batch_ran a.head.now a.records.now a.sends.now a.draws.now a.extras.now ≡ all t.head x.run_sends-run.new.records t.draws t.extras
 all_sent c = sym (sent c).run_sends-run.ensures.0 ∙ ran_all _ _ c.if-run-ne0.false
 
 within : (c : tie.Else-run-ne0) → length (start (sent c)).args.sends.now / message_words ≤ most_messages
@@ -51,29 +51,29 @@ abbrev left : tie.After-take_on-taken → Head
 left y = (sent (then y)).run_sends-run.result.head
 
 abbrev words : tie.After-take_on-taken → List ℕ
-words y = (sent (then y)).run_sends-run.new.1.0
+words y = (sent (then y)).run_sends-run.new.records
 
 abbrev call : tie.After-take_on-taken → Change
 call y = collect (start (sent (then y))).args.now (length (start (sent (then y))).args.out.now)
 
-accepted : (c : tie.In-Records-2) → let y = c.before.before.before.before in answer_in (call y) (left y) (words y) ≡ done
-accepted c = taken_done _ _ _ c.take_on-taken.ensures.1.1.0 _ c.answer-in-Records-1.given.1
+accepted : (c : tie.In-Records) → let y = c.before.before.before in answer_in (call y) (left y) (words y) ≡ done
+accepted c = taken_done _ _ _ c.take_on-taken.ensures.1.1.0 _ c.in-Records.is
 
 -- ---- or was not
-module _ (y : tie.After-take_on-taken) (r : Refusal) (e : y.take_on.result.answer ≡ Uncounted r) where
+module _ (y : tie.After-take_on-taken) (r : Refusal) (e : y.take_on-taken.result.answer ≡ Uncounted r) where
   refusing : answer_in (call y) (left y) (words y) ≡ refused (refusal_number r)
   refusing = taken_refused _ _ _ y.take_on-taken.ensures.1.1.0 r e
 
-  untouched : y.take_on-taken.new.0 ≡ words y
+  untouched : y.take_on-taken.new.w ≡ words y
   untouched = y.take_on-taken.ensures.1.0 ∙ sym (records_stay (left y) (words y) (call y) _ refusing)
 
   -- without the newer records there is what came
   came : let a = (start (sent (then y))).args in
-      (z : List ℕ) → z ≡ packed (keep (up_to (head_in a.head.now).seq) (recs y.take_on-taken.new.0 0 (left y).pending)) → z ≡ a.records.now
+      (z : List ℕ) → z ≡ packed (keep (up_to (head_in a.head.now).seq) (recs y.take_on-taken.new.w 0 (left y).pending)) → z ≡ a.records.now
   came z p =
       p
       ∙ (ap (λ (u : List ℕ). packed (keep (up_to (head_in (start (sent (then y))).args.head.now).seq) (recs u 0 (left y).pending))) untouched
-      ∙ ((sent (then y)).run_sends-run.ensures.1.1 (then y).if-run-ne0.left).2)
+      ∙ ((sent (then y)).run_sends-run.ensures.1.1 (then y).if-run-ne0.false).2)
 
 run-sends-requires : tie.Need-run_sends-run-requires
 run-sends-requires c κs = search rules
@@ -102,47 +102,45 @@ element-copy-out-take-back c = search rules
 
 take-back-requires : tie.Need-take_back-requires
 take-back-requires c κs =
-    let y = c.before.before.before.before.before.before.before.before.before in
-    let g = c.answer-1.given in
+    let y = c.before.before.before.before.before.before.before in
     let w = (sent (then y)).run_sends-run.ensures.1.1 (then y).if-run-ne0.false in
-    rw (untouched y c.answer-1.given.0.0 c.answer-1.given.1) (w.0, w.1)
+    rw (untouched y c.in-Refused.refusal c.in-Refused.is) (w.0, w.1)
 
 number-of-requires : tie.Need-number_of-requires
 number-of-requires c κs = search rules
 
 at-requires-2 : tie.Need-at-requires-in-Refused
 at-requires-2 c κs =
-    (omega (arith, c.number_of.ensures, number_under c.answer-1.given.0.0), within (then c.before.before.before.before.before.before.before.before.before.before.before))
+    (omega (arith, c.number_of.ensures, number_under c.in-Refused.refusal), within (then c.before.before.before.before.before.before.before.before.before))
 
 enum-known-answer-2 : tie.Need-enum_known-answer-in-Records-1
 enum-known-answer-2 c = search rules
 
 store-requires : tie.Need-store-requires
 store-requires c κs =
-    let y = c.before.before.before.before.before.before in
-    ap (λ (h : Head). good_options (plain_options h.options)) y.take_on-taken.ensures.0 ∙ stays_good _ _ _ (accepted c.before.before.before)
+    let y = c.before.before.before.before.before in
+    ap (λ (h : Head). good_options (plain_options h.options)) y.take_on-taken.ensures.0 ∙ stays_good _ _ _ (accepted c.before.before)
 
 same_length : tie.Need-shape_of-out-in-Refused
 same_length c = search rules
 
 returns-2 : tie.Need-returns-in-Refused
 returns-2 c =
-    let y = c.before.before.before.before.before.before.before.before.before.before.before.before in
+    let y = c.before.before.before.before.before.before.before.before.before.before in
     let a = (start (sent (then y))).args in
-    let g = c.answer-1.given in
-    take_refused a.head.now a.records.now a.sends.now a.draws.now a.extras.now a.now a.out.now a.told.now (left y) _ _ _ (all_sent (then y)) _ (refusing y c.answer-1.given.0.0 c.answer-1.given.1) _
+    take_refused a.head.now a.records.now a.sends.now a.draws.now a.extras.now a.now a.out.now a.told.now (left y) _ _ _ (all_sent (then y)) _ (refusing y c.in-Refused.refusal c.in-Refused.is) _
     (c.at-in-Refused.ensures ∙ ap (λ (k : ℕ). number_at k (length a.sends.now / message_words)) c.number_of.ensures) _ _
-    (came y c.answer-1.given.0.0 c.answer-1.given.1 _ c.take_back.ensures) y.take_on-taken.ensures.1.1.1
+    (came y c.in-Refused.refusal c.in-Refused.is _ c.take_back.ensures) y.take_on-taken.ensures.1.1.1
 
 same-length-2 : tie.Need-shape_of-out-in-Records
 same-length-2 c = search rules
 
 returns-3 : tie.Need-returns-in-Records
 returns-3 c =
-    let y = c.before.before.before.before.before.before.before.before.before in
+    let y = c.before.before.before.before.before.before.before in
     let a = (start (sent (then y))).args in
-    all_done a.head.now a.records.now a.sends.now a.draws.now a.extras.now a.now a.out.now a.told.now (left y) _ _ _ (all_sent (then y)) (accepted c.before.before.before.before.before) _ y.take_on-taken.ensures.0 _ _ _ c.store.ensures y.take_on-taken.ensures.1.0 y.take_on-taken.ensures.1.1.1 _
-    (taken_told _ _ _ y.take_on-taken.ensures.1.1.0 _ c.answer-in-Records-1.given.1)
+    all_done a.head.now a.records.now a.sends.now a.draws.now a.extras.now a.now a.out.now a.told.now (left y) _ _ _ (all_sent (then y)) (accepted c.before.before.before.before) _ y.take_on-taken.ensures.0 _ _ _ c.store.ensures y.take_on-taken.ensures.1.0 y.take_on-taken.ensures.1.1.1 _
+    (taken_told _ _ _ y.take_on-taken.ensures.1.1.0 _ c.in-Records.is)
 
 pub tick_spec : {M : Type 1} → statement M
 tick_spec = tie.close (tie.spec run-sends-requires at-requires returns take-on-requires enum-known-answer element-copy-out-take-back take-back-requires number-of-requires at-requires-2 enum-known-answer-2 store-requires same_length returns-2 same-length-2 returns-3)
