@@ -1,10 +1,8 @@
 -- `plants::first_set` meets its contract: after i turns the first i flags are set. Assumes nothing.
-use Prim.Native.Nat.{◌≤◌, ◌-◌}
 use mathlib.Core.Path.{◌≡◌, refl, ap, ◌∙◌}
-use mathlib.Core.List.{◌++◌}
-use mathlib.Core.Bool.{true, false}
+use mathlib.Core.Bool.{true}
 use native.Mathlib.Omega.{arith}
-use lib.ListN.{set, replicate}
+use lib.ListN.{set}
 use Rattle.plants.proofs.Counting.{one_more}
 use Rattle.plants.proofs.first_set.Goals as goal
 

@@ -1,10 +1,8 @@
 use Prim.Native.Nat.{◌≤◌, ◌-◌}
-use mathlib.Core.Path.{◌≡◌, refl, ap, ◌∙◌}
+use mathlib.Core.Path.{◌≡◌}
 use mathlib.Core.List.{◌++◌}
 use mathlib.Core.Bool.{true, false}
-use native.Mathlib.Omega.{arith}
-use lib.ListN.{set, replicate}
-use Rattle.plants.proofs.Counting.{one_more}
+use lib.ListN.{replicate}
 use Rattle.plants.proofs.first_set.Given as goal
 
 abbrev pub invariant-loop-i : goal.invariant-loop-i

@@ -1,9 +1,6 @@
 -- `plants::none_set` meets its contract: a flag that is passed was not set, so what is left decides. Assumes nothing.
-use Prim.Native.Nat.{◌≤◌, ◌-◌}
-use mathlib.Core.Path.{◌≡◌, refl, sym, ◌∙◌}
+use mathlib.Core.Path.{refl, sym, ◌∙◌}
 use native.Mathlib.Omega.{arith}
-use lib.ListN.{drop}
-use Rattle.plants.specs.State.{none_set}
 use Rattle.plants.proofs.Counting.{unset_on, set_stops, none_left}
 use Rattle.plants.proofs.none_set.Goals as goal
 

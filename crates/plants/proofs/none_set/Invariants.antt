@@ -1,9 +1,7 @@
 use Prim.Native.Nat.{◌≤◌, ◌-◌}
-use mathlib.Core.Path.{◌≡◌, refl, sym, ◌∙◌}
-use native.Mathlib.Omega.{arith}
+use mathlib.Core.Path.{◌≡◌}
 use lib.ListN.{drop}
 use Rattle.plants.specs.State.{none_set}
-use Rattle.plants.proofs.Counting.{unset_on, set_stops, none_left}
 use Rattle.plants.proofs.none_set.Given as goal
 
 abbrev pub invariant-loop-i : goal.invariant-loop-i

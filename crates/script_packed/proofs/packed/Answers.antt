@@ -1,6 +1,5 @@
 -- `script_packed::packed` meets its contract: the parts are so small that the word holds them. Assumes nothing.
 use native.Mathlib.Omega.{arith}
-use borrow.Author.Rules.{rules}
 use Rattle.script_packed.proofs.Parts.{number_range, why_range}
 use Rattle.script_packed.proofs.packed.Goals as goal
 

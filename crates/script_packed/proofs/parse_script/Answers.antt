@@ -4,7 +4,6 @@ use mathlib.Core.Path.{sym, ap, ◌∙◌}
 use lib.ListN.{length}
 use Rattle.script_packed.specs.Packing.{answer_word}
 use Rattle.script_packed.proofs.Parts.{below_factor}
-use borrow.Author.Rules.{rules}
 use Rattle.script_packed.proofs.parse_script.Goals as goal
 
 pub packed-requires : goal.packed-requires

@@ -3,7 +3,6 @@ use mathlib.Core.Path.{refl, sym, ap, ◌∙◌}
 use Rattle.plants.specs.Faults.{after_fault}
 use Rattle.plants.proofs.Testing.{counts}
 use Rattle.plants.proofs.Counting.{id_below}
-use borrow.Author.Rules.{rules}
 use Rattle.plants.proofs.Plants.after.Goals as goal
 
 pub crashed-requires : goal.crashed-requires

@@ -1,5 +1,4 @@
 -- `plants::Plants::fresh` meets its contract. Assumes nothing.
-use borrow.Author.Rules.{rules}
 use Rattle.plants.proofs.Plants.fresh.Goals as goal
 
 pub returns : goal.returns

@@ -1,7 +1,6 @@
 -- `plants::Plants::rebooted` meets its contract. Assumes nothing.
 use mathlib.Core.Path.{refl}
 use Rattle.plants.specs.Faults.{after_fault}
-use borrow.Author.Rules.{rules}
 use Rattle.plants.proofs.Plants.rebooted.Goals as goal
 
 pub returns : goal.returns

@@ -1,7 +1,6 @@
 -- `plants::Plants::restarted` meets its contract: the count rises by one at most. Assumes nothing.
 use native.Mathlib.Omega.{arith}
 use Rattle.plants.specs.Faults.{after_fault}
-use borrow.Author.Rules.{rules}
 use Rattle.plants.proofs.Plants.restarted.Goals as goal
 
 pub overflow_add-me : goal.overflow_add-me
