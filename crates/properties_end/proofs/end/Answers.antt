@@ -1,6 +1,5 @@
 -- `properties_end::end` meets its contract: each refusal is a test of the definition, in its order. Assumes nothing.
-use borrow.Author.Rules.{rules}
-use borrow.Author.Tests.{not-true, not-false, eq-eqb, ne_eqb}
+use borrow.Author.Tests.{eq-eqb, ne_eqb}
 use mathlib.Core.Bool.{true, false}
 use mathlib.Core.List.{List}
 use mathlib.Core.Path.{◌≡◌, sym, ◌∙◌}
@@ -49,29 +48,29 @@ module _ (n : ℕ) (p l : List ℕ) (values : List ℤ) (core t : List ℕ) wher
 pub returns-then-not-plant_count : goal.returns-then-not-plant_count
 returns-then-not-plant_count c = let args = c.args in
     miscounted args.n args.plants.now args.logs.now args.values.now args.core.now args.tracker.now
-    (sym c.plant_count.ensures ∙ not-true _ c.if-not-plant_count.true)
+    (sym c.plant_count.ensures ∙ c.if-not-plant_count.true)
 
 pub snapshot_fits-requires : goal.snapshot_fits-requires
 snapshot_fits-requires c = let args = c.args in
-    (between args.n (sym c.plant_count.ensures ∙ not-false _ c.if-not-plant_count.false)).1
+    (between args.n (sym c.plant_count.ensures ∙ c.if-not-plant_count.false)).1
 
 pub returns-then-not-snapshot_fits : goal.returns-then-not-snapshot_fits
 returns-then-not-snapshot_fits c = let args = c.args in
     unfit args.n args.plants.now args.logs.now args.values.now args.core.now args.tracker.now
-    (sym c.plant_count.ensures ∙ not-false _ c.if-not-plant_count.false)
-    (sym c.snapshot_fits.ensures ∙ not-true _ c.if-not-snapshot_fits.true)
+    (sym c.plant_count.ensures ∙ c.if-not-plant_count.false)
+    (sym c.snapshot_fits.ensures ∙ c.if-not-snapshot_fits.true)
 
 pub returns-then-values-n : goal.returns-then-values-n
 returns-then-values-n c = let args = c.args in
     let the-plant-count = c.plant_count in
     unvalued args.n args.plants.now args.logs.now args.values.now args.core.now args.tracker.now
-    (sym the-plant-count.ensures ∙ not-false _ c.if-not-plant_count.false)
-    (sym c.snapshot_fits.ensures ∙ not-false _ c.if-not-snapshot_fits.false) c.if-values-n.true
+    (sym the-plant-count.ensures ∙ c.if-not-plant_count.false)
+    (sym c.snapshot_fits.ensures ∙ c.if-not-snapshot_fits.false) c.if-values-n.true
 
 pub core_fits-requires : goal.core_fits-requires
 core_fits-requires c = let args = c.args in
     let the-plant-count = c.plant_count in
-    (between args.n (sym the-plant-count.ensures ∙ not-false _ c.if-not-plant_count.false)).1
+    (between args.n (sym the-plant-count.ensures ∙ c.if-not-plant_count.false)).1
 
 pub returns-then-not-core_fits : goal.returns-then-not-core_fits
 returns-then-not-core_fits c = let args = c.args in
@@ -79,14 +78,13 @@ returns-then-not-core_fits c = let args = c.args in
     let if1 = c.if-not-plant_count in
     let the-snapshot-fits = c.snapshot_fits in
     no_core args.n args.plants.now args.logs.now args.values.now args.core.now args.tracker.now
-    (sym the-plant-count.ensures ∙ not-false _ if1.false) (sym the-snapshot-fits.ensures ∙ not-false _
-    c.if-not-snapshot_fits.false) c.if-values-n.false (sym c.core_fits.ensures ∙ not-true _ c.if-not-core_fits.true)
+    (sym the-plant-count.ensures ∙ if1.false) (sym the-snapshot-fits.ensures ∙ c.if-not-snapshot_fits.false) c.if-values-n.false (sym c.core_fits.ensures ∙ c.if-not-core_fits.true)
 
 pub tracker_fits-requires : goal.tracker_fits-requires
 tracker_fits-requires c = let args = c.args in
     let the-plant-count = c.plant_count in
     let if1 = c.if-not-plant_count in
-    (between args.n (sym the-plant-count.ensures ∙ not-false _ if1.false)).1
+    (between args.n (sym the-plant-count.ensures ∙ if1.false)).1
 
 pub returns-then-not-tracker_fits : goal.returns-then-not-tracker_fits
 returns-then-not-tracker_fits c = let args = c.args in
@@ -96,9 +94,9 @@ returns-then-not-tracker_fits c = let args = c.args in
     let if2 = c.if-not-snapshot_fits in
     let if3 = c.if-values-n in
     untracked args.n args.plants.now args.logs.now args.values.now args.core.now args.tracker.now
-    (sym the-plant-count.ensures ∙ not-false _ if1.false) (sym the-snapshot-fits.ensures ∙ not-false _ if2.false) if3.false
-    (sym c.core_fits.ensures ∙ not-false _ c.if-not-core_fits.false)
-    (sym c.tracker_fits.ensures ∙ not-true _ c.if-not-tracker_fits.true)
+    (sym the-plant-count.ensures ∙ if1.false) (sym the-snapshot-fits.ensures ∙ if2.false) if3.false
+    (sym c.core_fits.ensures ∙ c.if-not-core_fits.false)
+    (sym c.tracker_fits.ensures ∙ c.if-not-tracker_fits.true)
 
 pub convergence-requires : goal.convergence-requires
 convergence-requires c = let args = c.args in
@@ -107,10 +105,10 @@ convergence-requires c = let args = c.args in
     let the-snapshot-fits = c.snapshot_fits in
     let if2 = c.if-not-snapshot_fits in
     let if3 = c.if-values-n in
-    let k = core_known args.n args.core.now (sym c.core_fits.ensures ∙ not-false _ c.if-not-core_fits.false) in record {
+    let k = core_known args.n args.core.now (sym c.core_fits.ensures ∙ c.if-not-core_fits.false) in record {
       snapshot = (
-        snapshot_known args.n args.plants.now args.logs.now (sym the-plant-count.ensures ∙ not-false _ if1.false)
-            (sym the-snapshot-fits.ensures ∙ not-false _ if2.false),
+        snapshot_known args.n args.plants.now args.logs.now (sym the-plant-count.ensures ∙ if1.false)
+            (sym the-snapshot-fits.ensures ∙ if2.false),
         if3.false,
         k.0,
       );
@@ -126,6 +124,6 @@ returns c = let args = c.args in
     let if3 = c.if-values-n in
     let the-core-fits = c.core_fits in
     c.convergence.ensures ∙ taken args.n args.plants.now args.logs.now args.values.now args.core.now args.tracker.now
-    (sym the-plant-count.ensures ∙ not-false _ if1.false) (sym the-snapshot-fits.ensures ∙ not-false _ if2.false) if3.false
-    (sym the-core-fits.ensures ∙ not-false _ c.if-not-core_fits.false)
-    (sym c.tracker_fits.ensures ∙ not-false _ c.if-not-tracker_fits.false)
+    (sym the-plant-count.ensures ∙ if1.false) (sym the-snapshot-fits.ensures ∙ if2.false) if3.false
+    (sym the-core-fits.ensures ∙ c.if-not-core_fits.false)
+    (sym c.tracker_fits.ensures ∙ c.if-not-tracker_fits.false)

@@ -1,9 +1,6 @@
 -- `properties_quick::all_still` meets its contract. The loop's invariant: the plants passed are still. Assumes nothing.
-use borrow.Author.Rules.{rules}
-use borrow.Author.Tests.{not-false}
 use native.Mathlib.Omega.{arith}
 use mathlib.Core.Bool.{false≢true}
-use Prim.Native.Nat.{ℕ, ◌-◌, ◌≤◌, ◌<◌}
 use Rattle.properties_snapshots.proofs.Below.{below_more}
 use Rattle.properties_quick.specs.Quick.{Still}
 use Rattle.properties_quick.proofs.all_still.Goals as goal
@@ -23,7 +20,7 @@ loop-r-smaller c = omega arith
 pub loop-r-preserved : goal.loop-r-preserved
 loop-r-preserved c = let a = c.args in
     let loop = c.loop-r in
-    (omega arith, below_more (Still a.plants.now a.tracker.now) loop.r loop.invariant.1 (c.still.ensures (not-false _ c.if-not-still.false)))
+    (omega arith, below_more (Still a.plants.now a.tracker.now) loop.r loop.invariant.1 (c.still.ensures c.if-not-still.false))
 
 pub returns : goal.returns
 returns c = λ e k h. c.loop-r.invariant.1 k (omega arith)

@@ -1,9 +1,4 @@
-use borrow.Author.Rules.{rules}
-use borrow.Author.Tests.{not-false}
-use native.Mathlib.Omega.{arith}
-use mathlib.Core.Bool.{false≢true}
 use Prim.Native.Nat.{ℕ, ◌-◌, ◌≤◌, ◌<◌}
-use Rattle.properties_snapshots.proofs.Below.{below_more}
 use Rattle.properties_quick.specs.Quick.{Still}
 use Rattle.properties_quick.proofs.all_still.Given as goal
 

@@ -1,5 +1,4 @@
 -- `properties_quick::still` meets its contract: each test that did not answer no is one of the numbers' facts. Assumes nothing.
-use borrow.Author.Rules.{rules}
 use native.Mathlib.Omega.{arith}
 use mathlib.Core.Bool.{false≢true}
 use Rattle.properties_quick.proofs.still.Goals as goal
@@ -25,7 +24,7 @@ returns-then-op-gt-ENTRIES c = λ e. absurd (false≢true e)
 pub returns : goal.returns
 returns c = let commit = c.commit_of-commit.ensures in
     let op = c.op_of-op.ensures in
-    let size = c.before.type_size.ensures in
+    let size = c.size_of.ensures in
     let last = c.last_of.ensures in λ e.
     record {
       flag = omega (arith, c.recovering_of.ensures, c.if-recovering_of-gt1.false);

@@ -1,12 +1,10 @@
 -- `properties_tick::tick` meets its contract: the words are written on a pass alone, and stay where no commit has moved. Assumes nothing.
-use borrow.Author.Rules.{rules}
 use mathlib.Core.List.{List}
 use mathlib.Core.Path.{◌≡◌, refl, sym, ◌∙◌}
 use Prim.Native.Nat.{ℕ}
 use Rattle.properties_snapshots.specs.Cluster.{cluster_in}
 use Rattle.properties_snapshots.proofs.Held.{commit_held, last_held}
 use Rattle.properties_verdicts.specs.Verdicts.{on_pass}
-use Rattle.properties_verdicts.proofs.First.{no_pass}
 use Rattle.properties_remembering.specs.Remembering.{remembered}
 use Rattle.properties_quick.specs.Quick.{NothingNew}
 use Rattle.properties_tick.specs.Calls.{tick_answer, tick_words}
@@ -50,10 +48,10 @@ remember-requires c = let args = c.args in
 pub returns-in-Pass : goal.returns-in-Pass
 returns-in-Pass c = let args = c.args in
     let the-tick-answer = c.tick_answer-answer in
-    let the-enum-told = c.enum_told-1 in record {
+    record {
       answer = the-tick-answer.ensures;
       words = passed args.n args.plants.now args.logs.now args.tracker.now _
-          (sym the-tick-answer.ensures ∙ the-enum-told.given.1) c.remember.ensures;
+          (sym the-tick-answer.ensures ∙ c.in-Pass.is) c.remember.ensures;
     }
 
 pub returns-in_default : goal.returns-in_default
@@ -61,5 +59,5 @@ returns-in_default c = let args = c.args in
     let the-tick-answer = c.tick_answer-answer in record {
       answer = the-tick-answer.ensures;
       words = kept args.n args.plants.now args.logs.now args.tracker.now
-          (λ e. no_pass the-tick-answer.result c.in_default.keys2 (the-tick-answer.ensures ∙ e));
+          (λ e. c.in_default.not-Pass (the-tick-answer.ensures ∙ e));
     }

@@ -1,6 +1,4 @@
 -- `properties_tick::tick_answer` meets its contract: each refusal is a test of the definition, in its order. Assumes nothing.
-use borrow.Author.Rules.{rules}
-use borrow.Author.Tests.{not-true, not-false}
 use mathlib.Core.Bool.{true, false}
 use mathlib.Core.List.{List}
 use mathlib.Core.Path.{◌≡◌, sym, ◌∙◌}
@@ -30,37 +28,36 @@ module _ (n : ℕ) (p l t : List ℕ) where
 
 pub returns-then-not-plant_count : goal.returns-then-not-plant_count
 returns-then-not-plant_count c = let args = c.args in
-    miscounted args.n args.plants.now args.logs.now args.tracker.now (sym c.plant_count.ensures ∙ not-true _ c.if-not-plant_count.true)
+    miscounted args.n args.plants.now args.logs.now args.tracker.now (sym c.plant_count.ensures ∙ c.if-not-plant_count.true)
 
 pub snapshot_fits-requires : goal.snapshot_fits-requires
 snapshot_fits-requires c = let args = c.args in
-    (between args.n (sym c.plant_count.ensures ∙ not-false _ c.if-not-plant_count.false)).1
+    (between args.n (sym c.plant_count.ensures ∙ c.if-not-plant_count.false)).1
 
 pub returns-then-not-snapshot_fits : goal.returns-then-not-snapshot_fits
 returns-then-not-snapshot_fits c = let args = c.args in
-    unfit args.n args.plants.now args.logs.now args.tracker.now (sym c.plant_count.ensures ∙ not-false _
-    c.if-not-plant_count.false) (sym c.snapshot_fits.ensures ∙ not-true _ c.if-not-snapshot_fits.true)
+    unfit args.n args.plants.now args.logs.now args.tracker.now (sym c.plant_count.ensures ∙ c.if-not-plant_count.false) (sym c.snapshot_fits.ensures ∙ c.if-not-snapshot_fits.true)
 
 pub tracker_fits-requires : goal.tracker_fits-requires
 tracker_fits-requires c = let args = c.args in
-    (between args.n (sym c.plant_count.ensures ∙ not-false _ c.if-not-plant_count.false)).1
+    (between args.n (sym c.plant_count.ensures ∙ c.if-not-plant_count.false)).1
 
 pub returns-then-not-tracker_fits : goal.returns-then-not-tracker_fits
 returns-then-not-tracker_fits c = let args = c.args in
     let the-plant-count = c.plant_count in
     let if1 = c.if-not-plant_count in
-    untracked args.n args.plants.now args.logs.now args.tracker.now (sym the-plant-count.ensures ∙ not-false _ if1.false)
-    (sym c.snapshot_fits.ensures ∙ not-false _ c.if-not-snapshot_fits.false)
-    (sym c.tracker_fits.ensures ∙ not-true _ c.if-not-tracker_fits.true)
+    untracked args.n args.plants.now args.logs.now args.tracker.now (sym the-plant-count.ensures ∙ if1.false)
+    (sym c.snapshot_fits.ensures ∙ c.if-not-snapshot_fits.false)
+    (sym c.tracker_fits.ensures ∙ c.if-not-tracker_fits.true)
 
 pub judge-requires : goal.judge-requires
 judge-requires c = let args = c.args in
     let the-plant-count = c.plant_count in
     let if1 = c.if-not-plant_count in (
-      snapshot_known args.n args.plants.now args.logs.now (sym the-plant-count.ensures ∙ not-false _ if1.false)
-          (sym c.snapshot_fits.ensures ∙ not-false _ c.if-not-snapshot_fits.false),
+      snapshot_known args.n args.plants.now args.logs.now (sym the-plant-count.ensures ∙ if1.false)
+          (sym c.snapshot_fits.ensures ∙ c.if-not-snapshot_fits.false),
       tracker_known args.n
-          args.tracker.now (sym c.tracker_fits.ensures ∙ not-false _ c.if-not-tracker_fits.false),
+          args.tracker.now (sym c.tracker_fits.ensures ∙ c.if-not-tracker_fits.false),
     )
 
 pub returns : goal.returns
@@ -69,5 +66,4 @@ returns c = let args = c.args in
     let if1 = c.if-not-plant_count in
     let the-snapshot-fits = c.snapshot_fits in
     c.judge.ensures ∙ taken args.n args.plants.now args.logs.now args.tracker.now
-    (sym the-plant-count.ensures ∙ not-false _ if1.false) (sym the-snapshot-fits.ensures ∙ not-false _
-    c.if-not-snapshot_fits.false) (sym c.tracker_fits.ensures ∙ not-false _ c.if-not-tracker_fits.false)
+    (sym the-plant-count.ensures ∙ if1.false) (sym the-snapshot-fits.ensures ∙ c.if-not-snapshot_fits.false) (sym c.tracker_fits.ensures ∙ c.if-not-tracker_fits.false)

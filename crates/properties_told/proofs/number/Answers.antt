@@ -1,7 +1,6 @@
 -- `properties_told::number` meets its contract. Assumes nothing.
 use mathlib.Core.Path.{sym, ap, ◌∙◌}
 use Rattle.properties_told.specs.Told.{answer_number}
-use borrow.Author.Rules.{rules}
 use Rattle.properties_told.proofs.number.Goals as goal
 
 pub returns-in-Refused : goal.returns-in-Refused

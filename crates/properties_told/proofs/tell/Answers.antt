@@ -7,7 +7,6 @@ use lib.ListN.{length}
 use Rattle.properties_verdicts.specs.declared.Answer.{Answer}
 use Rattle.properties_told.specs.Told.{answer_words, answer_number, answer_told}
 use Rattle.properties_told.proofs.Rows.{four}
-use borrow.Author.Rules.{rules}
 use Rattle.properties_told.proofs.tell.Goals as goal
 
 pub returns-in-Pass : goal.returns-in-Pass

@@ -2,7 +2,6 @@
 use mathlib.Core.Path.{ap, ◌∙◌}
 use Rattle.properties_verdicts.specs.declared.Answer.{Answer}
 use Rattle.properties_told.specs.Told.{answer_number, answer_told}
-use borrow.Author.Rules.{rules}
 use Rattle.properties_words.proofs.end.Goals as goal
 
 pub returns : goal.returns

@@ -1,7 +1,6 @@
 -- `properties_words::reboot` meets its contract. Assumes nothing.
 use mathlib.Core.Path.{ap, ◌∙◌}
 use Rattle.properties_told.specs.Told.{answer_number}
-use borrow.Author.Rules.{rules}
 use Rattle.properties_words.proofs.reboot.Goals as goal
 
 pub returns : goal.returns
