@@ -1,11 +1,6 @@
 -- `plants_layout::flags_fit` meets its contract: what is gathered and what is left decide together. Assumes nothing.
-use Prim.Native.Nat.{◌-◌, ◌≤◌}
-use mathlib.Core.Path.{◌≡◌, refl, sym, ◌∙◌}
-use mathlib.Core.Bool.{◌&&◌}
+use mathlib.Core.Path.{refl, sym, ◌∙◌}
 use native.Mathlib.Omega.{arith}
-use lib.Dec.{leb}
-use lib.ListN.{take, drop}
-use Rattle.plants_layout.specs.Layout.{all_bits}
 use Rattle.plants_layout.proofs.Walking.{gathers, all_gathered}
 use Rattle.plants_layout.proofs.flags_fit.Goals as goal
 

@@ -1,11 +1,9 @@
 use Prim.Native.Nat.{◌-◌, ◌≤◌}
-use mathlib.Core.Path.{◌≡◌, refl, sym, ◌∙◌}
+use mathlib.Core.Path.{◌≡◌}
 use mathlib.Core.Bool.{◌&&◌}
-use native.Mathlib.Omega.{arith}
 use lib.Dec.{leb}
 use lib.ListN.{take, drop}
 use Rattle.plants_layout.specs.Layout.{all_bits}
-use Rattle.plants_layout.proofs.Walking.{gathers, all_gathered}
 use Rattle.plants_layout.proofs.flags_fit.Given as goal
 
 abbrev pub invariant-loop-i : goal.invariant-loop-i

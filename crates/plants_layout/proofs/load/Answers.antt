@@ -1,5 +1,4 @@
 -- `plants_layout::load` meets its contract, field by field. Assumes nothing.
-use borrow.Author.Rules.{rules}
 use Rattle.plants_layout.proofs.load.Goals as goal
 
 pub returns : goal.returns

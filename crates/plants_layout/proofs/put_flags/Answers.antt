@@ -1,8 +1,7 @@
 -- `plants_layout::put_flags` meets its contract: the flags written so far stand from the place on. Assumes nothing.
-use Prim.Native.Nat.{◌-◌, ◌≤◌}
 use mathlib.Core.Path.{◌≡◌, refl, ◌∙◌}
 use native.Mathlib.Omega.{arith}
-use lib.Seq.{paste, paste-zero}
+use lib.Seq.{paste-zero}
 use Rattle.plants_layout.specs.Layout.{bits}
 use Rattle.plants_layout.proofs.Writing.{one_more, all_written}
 use Rattle.plants_layout.proofs.Walking.{length-bits, bit_at}

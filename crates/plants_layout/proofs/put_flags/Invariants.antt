@@ -1,10 +1,7 @@
 use Prim.Native.Nat.{◌-◌, ◌≤◌}
-use mathlib.Core.Path.{◌≡◌, refl, ◌∙◌}
-use native.Mathlib.Omega.{arith}
-use lib.Seq.{paste, paste-zero}
+use mathlib.Core.Path.{◌≡◌}
+use lib.Seq.{paste}
 use Rattle.plants_layout.specs.Layout.{bits}
-use Rattle.plants_layout.proofs.Writing.{one_more, all_written}
-use Rattle.plants_layout.proofs.Walking.{length-bits, bit_at}
 use Rattle.plants_layout.proofs.put_flags.Given as goal
 
 abbrev pub invariant-loop-i : goal.invariant-loop-i

@@ -1,8 +1,7 @@
 -- `plants_layout::put_ticks` meets its contract: the ticks written so far stand from their place on. Assumes nothing.
-use Prim.Native.Nat.{◌-◌, ◌≤◌}
 use mathlib.Core.Path.{◌≡◌, refl, ◌∙◌}
 use native.Mathlib.Omega.{arith}
-use lib.Seq.{paste, paste-zero}
+use lib.Seq.{paste-zero}
 use Rattle.plants_layout.proofs.Writing.{one_more, all_written}
 use Rattle.plants_layout.proofs.put_ticks.Goals as goal
 

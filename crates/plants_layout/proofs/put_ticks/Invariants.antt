@@ -1,8 +1,6 @@
 use Prim.Native.Nat.{◌-◌, ◌≤◌}
-use mathlib.Core.Path.{◌≡◌, refl, ◌∙◌}
-use native.Mathlib.Omega.{arith}
-use lib.Seq.{paste, paste-zero}
-use Rattle.plants_layout.proofs.Writing.{one_more, all_written}
+use mathlib.Core.Path.{◌≡◌}
+use lib.Seq.{paste}
 use Rattle.plants_layout.proofs.put_ticks.Given as goal
 
 abbrev pub invariant-loop-i : goal.invariant-loop-i

@@ -1,7 +1,6 @@
 -- `plants_layout::shape` meets its contract, test by test. Assumes nothing.
 use mathlib.Core.Path.{sym, ◌∙◌}
 use Rattle.plants_layout.proofs.Shaping.{too_few, too_many, whole_shape, bad_flag}
-use borrow.Author.Rules.{rules}
 use Rattle.plants_layout.proofs.shape.Goals as goal
 
 pub returns-then-n : goal.returns-then-n

@@ -1,9 +1,8 @@
 -- `plants_layout::ticks_of` meets its contract: the ticks read so far stand in front. Assumes nothing.
-use Prim.Native.Nat.{◌-◌, ◌≤◌}
 use mathlib.Core.Path.{◌≡◌, refl, ◌∙◌}
 use native.Mathlib.Omega.{arith}
 use lib.ListN.{take, drop, replicate}
-use lib.Seq.{paste, paste-zero}
+use lib.Seq.{paste-zero}
 use Rattle.plants_layout.proofs.Writing.{one_more, all_over}
 use Rattle.plants_layout.proofs.Walking.{length_part, part_at}
 use Rattle.plants_layout.proofs.ticks_of.Goals as goal

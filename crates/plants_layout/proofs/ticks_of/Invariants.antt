@@ -1,10 +1,7 @@
 use Prim.Native.Nat.{◌-◌, ◌≤◌}
-use mathlib.Core.Path.{◌≡◌, refl, ◌∙◌}
-use native.Mathlib.Omega.{arith}
+use mathlib.Core.Path.{◌≡◌}
 use lib.ListN.{take, drop, replicate}
-use lib.Seq.{paste, paste-zero}
-use Rattle.plants_layout.proofs.Writing.{one_more, all_over}
-use Rattle.plants_layout.proofs.Walking.{length_part, part_at}
+use lib.Seq.{paste}
 use Rattle.plants_layout.proofs.ticks_of.Given as goal
 
 abbrev pub invariant-loop-i : goal.invariant-loop-i

@@ -3,7 +3,6 @@ use mathlib.Core.Path.{◌≡◌, ap, ◌∙◌}
 use lib.ListN.{length}
 use Rattle.plants_lineup.specs.Shuffle.{shuffled}
 use Rattle.plants_lineup.proofs.Ids.{length_ids}
-use borrow.Author.Rules.{rules}
 use Rattle.plants_lineup.proofs.deal.Goals as goal
 
 pub shuffle-requires : goal.shuffle-requires

@@ -1,9 +1,6 @@
 -- `plants_lineup::flags_fit` meets its contract: a flag that is passed fits, so what is left decides. Assumes nothing.
-use Prim.Native.Nat.{◌-◌, ◌≤◌}
-use mathlib.Core.Path.{◌≡◌, refl, sym, ◌∙◌}
+use mathlib.Core.Path.{refl, sym, ◌∙◌}
 use native.Mathlib.Omega.{arith}
-use lib.ListN.{length, drop}
-use Rattle.plants_lineup.specs.Core.{recovering_fit}
 use Rattle.plants_lineup.proofs.Walks.{flag_fits, flag_over, flags_end}
 use Rattle.plants_lineup.proofs.flags_fit.Goals as goal
 

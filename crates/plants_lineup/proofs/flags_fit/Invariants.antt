@@ -1,9 +1,7 @@
 use Prim.Native.Nat.{◌-◌, ◌≤◌}
-use mathlib.Core.Path.{◌≡◌, refl, sym, ◌∙◌}
-use native.Mathlib.Omega.{arith}
+use mathlib.Core.Path.{◌≡◌}
 use lib.ListN.{length, drop}
 use Rattle.plants_lineup.specs.Core.{recovering_fit}
-use Rattle.plants_lineup.proofs.Walks.{flag_fits, flag_over, flags_end}
 use Rattle.plants_lineup.proofs.flags_fit.Given as goal
 
 abbrev pub invariant-loop-i : goal.invariant-loop-i

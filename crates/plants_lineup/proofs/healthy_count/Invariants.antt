@@ -1,13 +1,7 @@
 use Prim.Native.Nat.{◌+◌, ◌-◌, ◌≤◌}
-use mathlib.Core.Path.{◌≡◌, ap}
-use native.Mathlib.Omega.{arith}
-use mathlib.Core.Bool.{true, false}
-use mathlib.Core.Logic.{⊎_elim}
-use borrow.Author.Tests.{eq-eqb, ne_eqb}
+use mathlib.Core.Path.{◌≡◌}
 use lib.ListN.{length}
-use native.Mathlib.Nat.{sub-zero}
 use Rattle.plants_lineup.specs.Core.{ids_from, tally, is_healthy, healthy_count}
-use Rattle.plants_lineup.proofs.Walks.{tally_next, tally_end}
 use Rattle.plants_lineup.proofs.healthy_count.Given as goal
 
 abbrev pub invariant-loop-i : goal.invariant-loop-i

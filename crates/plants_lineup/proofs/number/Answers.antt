@@ -1,5 +1,5 @@
 -- `plants_lineup::number` meets its contract: after i turns the first i plants stand at the front. Assumes nothing.
-use Prim.Native.Nat.{◌+◌, ◌-◌, ◌≤◌}
+use Prim.Native.Nat.{◌+◌}
 use mathlib.Core.Path.{◌≡◌, refl, sym, ap, ◌∙◌}
 use native.Mathlib.Omega.{arith}
 use mathlib.Core.List.{◌++◌, ◌∷◌, [], append-nil}

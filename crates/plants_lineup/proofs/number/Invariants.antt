@@ -1,12 +1,8 @@
-use Prim.Native.Nat.{◌+◌, ◌-◌, ◌≤◌}
-use mathlib.Core.Path.{◌≡◌, refl, sym, ap, ◌∙◌}
-use native.Mathlib.Omega.{arith}
-use mathlib.Core.List.{◌++◌, ◌∷◌, [], append-nil}
-use native.Mathlib.Nat.{zero-add}
-use lib.ListN.{length, drop, set, length-set, drop_of_length-le}
+use Prim.Native.Nat.{◌-◌, ◌≤◌}
+use mathlib.Core.Path.{◌≡◌}
+use mathlib.Core.List.{◌++◌}
+use lib.ListN.{length, drop}
 use Rattle.plants_lineup.specs.Core.{ids_from}
-use Rattle.plants_lineup.proofs.Ids.{length_ids, ids_more}
-use Rattle.plants_lineup.proofs.Walks.{put_next}
 use Rattle.plants_lineup.proofs.number.Given as goal
 
 abbrev pub invariant-loop-i : goal.invariant-loop-i

@@ -1,8 +1,6 @@
 -- `plants_lineup::picks_within` meets its contract: a pick that is passed is within, so what is left decides. Assumes nothing.
-use Prim.Native.Nat.{◌+◌}
 use mathlib.Core.Path.{◌≡◌, refl, sym, ◌∙◌}
 use native.Mathlib.Omega.{arith}
-use lib.ListN.{drop}
 use Rattle.plants_lineup.specs.Shuffle.{picks_within}
 use Rattle.plants_lineup.proofs.Walks.{pick_within, pick_over}
 use Rattle.plants_lineup.proofs.picks_within.Goals as goal

@@ -1,9 +1,7 @@
 use Prim.Native.Nat.{◌+◌}
-use mathlib.Core.Path.{◌≡◌, refl, sym, ◌∙◌}
-use native.Mathlib.Omega.{arith}
+use mathlib.Core.Path.{◌≡◌}
 use lib.ListN.{drop}
 use Rattle.plants_lineup.specs.Shuffle.{picks_within}
-use Rattle.plants_lineup.proofs.Walks.{pick_within, pick_over}
 use Rattle.plants_lineup.proofs.picks_within.Given as goal
 
 abbrev pub invariant-loop-i : goal.invariant-loop-i

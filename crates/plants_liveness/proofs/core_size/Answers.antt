@@ -1,5 +1,4 @@
 -- `plants_liveness::core_size` meets its contract. Assumes nothing.
-use borrow.Author.Rules.{rules}
 use Rattle.plants_liveness.proofs.core_size.Goals as goal
 
 pub returns : goal.returns

@@ -1,11 +1,9 @@
 -- `plants_liveness::picks_in_range` meets its contract: the size first, then the picks of the two shuffles. Assumes nothing.
 use mathlib.Core.Path.{sym, ap, ◌∙◌}
 use native.Mathlib.Omega.{arith}
-use borrow.Author.Tests.{not-true, not-false}
 use Prim.Native.Nat.{◌+◌, ◌-◌}
 use lib.ListN.{length, length-drop}
 use Rattle.plants_liveness.proofs.Ranges.{rest, too_small, too_large, first_out, by_second}
-use borrow.Author.Rules.{rules}
 use Rattle.plants_liveness.proofs.picks_in_range.Goals as goal
 
 pub returns-then-size-quorum : goal.returns-then-size-quorum
@@ -20,7 +18,7 @@ pub returns-then-not-picks_within : goal.returns-then-not-picks_within
 returns-then-not-picks_within c = let s = c.args in
     first_out s.n s.picks.now s.full c.core_size-size.result c.core_size-size.ensures
     (omega (arith, c.if-size-quorum.false, c.quorum.ensures)) c.if-n-size.false c.size_picks-first.result c.size_picks-first.ensures
-    (sym c.picks_within.ensures ∙ not-true _ c.if-not-picks_within.true)
+    (sym c.picks_within.ensures ∙ c.if-not-picks_within.true)
 
 pub picks_within-requires-2 : goal.picks_within-requires-2
 picks_within-requires-2 c = let s = c.args in
@@ -33,4 +31,4 @@ returns c = let s = c.args in
     c.picks_within-2.ensures
     ∙ by_second s.n s.picks.now s.full c.core_size-size.result c.core_size-size.ensures
     (omega (arith, c.if-size-quorum.false, c.quorum.ensures)) c.if-n-size.false c.size_picks-first.result c.size_picks-first.ensures
-    c.quorum-2.result c.quorum-2.ensures (sym c.picks_within.ensures ∙ not-false _ c.if-not-picks_within.false)
+    c.quorum-2.result c.quorum-2.ensures (sym c.picks_within.ensures ∙ c.if-not-picks_within.false)

@@ -1,7 +1,6 @@
 -- `plants_liveness::picks_used` meets its contract: two sums of a few picks. Assumes nothing.
 use native.Mathlib.Omega.{arith}
 use Rattle.plants_liveness.proofs.Ranges.{one_pick}
-use borrow.Author.Rules.{rules}
 use Rattle.plants_liveness.proofs.picks_used.Goals as goal
 
 pub overflow_add-result : goal.overflow_add-result

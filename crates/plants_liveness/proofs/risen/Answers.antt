@@ -1,11 +1,7 @@
 -- `plants_liveness::risen` meets its contract: those counted, and those among what is left. Assumes nothing.
-use Prim.Native.Nat.{◌+◌, ◌-◌, ◌≤◌}
-use mathlib.Core.Path.{◌≡◌}
 use native.Mathlib.Omega.{arith}
 use mathlib.Core.Bool.{not, ◌&&◌, false}
-use borrow.Author.Rules.{rules}
-use lib.ListN.{drop, get_or}
-use Rattle.plants_liveness.specs.Choice.{newly_set}
+use lib.ListN.{get_or}
 use Rattle.basis.proofs.Laws.{bit_le}
 use Rattle.plants_liveness.proofs.RisenFlags.{risen_next, risen_end}
 use Rattle.plants_liveness.proofs.risen.Goals as goal
@@ -39,4 +35,6 @@ loop-i-preserved c = let a = c.args in
     )
 
 pub returns : goal.returns
-returns c = let a = c.args in let told = omega (arith, risen_end a.before.now a.after.now c.loop-i.i (omega arith) (omega arith)) in record { count = told.0; few = told.1 }
+returns c = let a = c.args in
+    let e = risen_end a.before.now a.after.now c.loop-i.i (omega arith) (omega arith) in
+    record { count = omega (arith, e); few = omega arith }

@@ -1,12 +1,7 @@
 use Prim.Native.Nat.{◌+◌, ◌-◌, ◌≤◌}
 use mathlib.Core.Path.{◌≡◌}
-use native.Mathlib.Omega.{arith}
-use mathlib.Core.Bool.{not, ◌&&◌, false}
-use borrow.Author.Rules.{rules}
-use lib.ListN.{drop, get_or}
+use lib.ListN.{drop}
 use Rattle.plants_liveness.specs.Choice.{newly_set}
-use Rattle.basis.proofs.Laws.{bit_le}
-use Rattle.plants_liveness.proofs.RisenFlags.{risen_next, risen_end}
 use Rattle.plants_liveness.proofs.risen.Given as goal
 
 abbrev pub invariant-loop-i : goal.invariant-loop-i

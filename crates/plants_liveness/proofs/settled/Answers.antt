@@ -1,5 +1,4 @@
 -- `plants_liveness::settled` meets its contract. Assumes nothing.
-use borrow.Author.Rules.{rules}
 use Rattle.plants_liveness.proofs.settled.Goals as goal
 
 pub returns : goal.returns
