@@ -1,4 +1,4 @@
-use Rattle.std.proofs.Common.{◌≡◌, ◌≤◌, length, rules}
+use Rattle.std.proofs.Common.{◌≡◌, ◌≤◌, length}
 use Rattle.samples_list.proofs.move_up.Given as goal
 
 abbrev pub invariant-loop-left : goal.invariant-loop-left
