@@ -19,15 +19,15 @@ module _ (c : tie.After-write_at) where
   abbrev start : tie.Start
   start = c.before.before.before.before.before
 
-  over : c.write_at.new.0 ≡ laid start.args.journal.now (used start.args.journal.now) start.args.what.now
+  over : c.write_at.new.words ≡ laid start.args.journal.now (used start.args.journal.now) start.args.what.now
   over = c.write_at.ensures
 
-  long : 2 ≤ length c.write_at.new.0
+  long : 2 ≤ length c.write_at.new.words
   long =
       rw over
       (omega (arith, length_over start.args.journal.now start.args.what.now start.requires.0 start.requires.1, (header start).long))
 
-  count : get_or c.write_at.new.0 0 0 ≡ held start.args.journal.now
+  count : get_or c.write_at.new.words 0 0 ≡ held start.args.journal.now
   count =
       ap (λ (v : List ℕ). get_or v 0 0) over
       ∙ held_stays start.args.journal.now start.args.what.now start.requires.0 start.requires.1

@@ -1,7 +1,4 @@
-use mathlib.Core.Path.{refl}
-use native.Mathlib.Omega.{arith}
-use borrow.Author.Tests.{not-true, not-false}
-use Rattle.journal_undo.proofs.Undoing.{Undoing, stops, goes_on, ends}
+use Rattle.journal_undo.proofs.Undoing.{Undoing}
 use Rattle.journal_undo.proofs.undo_all.Given as goal
 
 abbrev pub invariant-loop-left : goal.invariant-loop-left

@@ -10,10 +10,22 @@ pub returns-then-end-size : goal.returns-then-end-size
 returns-then-end-size c = let told = told_misfit c.misfit.result c.misfit.ensures _ c.requires.0 (no_room _ _ _ (omega (arith, c.if-end-size.true))) in record { undone = told.0; formed = told.1.0; whole = told.1.1 }
 
 pub returns-then-sort-eq-SEND : goal.returns-then-sort-eq-SEND
-returns-then-sort-eq-SEND c = let u = c.undo.ensures in let told = (u.undone ∙ by_sort _ _ _ 1 c.if-sort-eq-SEND.true (omega (arith, c.if-end-size.false, c.requires.2)), u.1) in record { undone = told.0; formed = told.1.0; whole = told.1.1 }
+returns-then-sort-eq-SEND c =
+    let u = c.undo.ensures in
+    record {
+      undone = u.undone ∙ by_sort _ _ _ 1 c.if-sort-eq-SEND.true (omega (arith, c.if-end-size.false, c.requires.2));
+      formed = u.formed;
+      whole = u.whole;
+    }
 
 pub returns-then-sort-eq-TAKE : goal.returns-then-sort-eq-TAKE
-returns-then-sort-eq-TAKE c = let u = c.undo-then-sort-eq-TAKE.ensures in let told = (u.undone ∙ by_sort _ _ _ 2 c.if-sort-eq-TAKE.true (omega (arith, c.if-end-size.false, c.requires.2)), u.1) in record { undone = told.0; formed = told.1.0; whole = told.1.1 }
+returns-then-sort-eq-TAKE c =
+    let u = c.undo-then-sort-eq-TAKE.ensures in
+    record {
+      undone = u.undone ∙ by_sort _ _ _ 2 c.if-sort-eq-TAKE.true (omega (arith, c.if-end-size.false, c.requires.2));
+      formed = u.formed;
+      whole = u.whole;
+    }
 
 pub returns-then-sort-eq-OPTIONS : goal.returns-then-sort-eq-OPTIONS
 returns-then-sort-eq-OPTIONS c = let u = c.undo-then-sort-eq-OPTIONS.ensures in

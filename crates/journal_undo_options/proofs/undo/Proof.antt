@@ -5,7 +5,6 @@ use mathlib.Core.Path.{◌≡◌, sym, ◌∙◌}
 use mathlib.Core.List.{List}
 use native.Mathlib.Omega.{arith}
 use borrow.Author.Rules.{rules}
-use borrow.Author.Tests.{not-true, not-false}
 use denote.Floats.{passes}
 use lib.ListN.{get_or}
 use Rattle.journal_tests.proofs.Telling.{misfit_told, misfit_stays}
@@ -72,7 +71,7 @@ misfit-requires-3 c κs = search rules
 returns-3 : tie.Need-returns-then-not-good_word
 returns-3 c =
     let o = c.before.before.before.before in
-    let bad = sym c.good_word.ensures ∙ not-true _ c.if-not-good_word.true in (
+    let bad = sym c.good_word.ensures ∙ c.if-not-good_word.true in (
       λ (w : List ℕ) f.
           misfit_told c.misfit-then-not-good_word.result c.misfit-then-not-good_word.ensures w (bad_loss _ _ _ _ _ bad (seven o) (nine o) (small_flag o)),
       λ (w : List ℕ) f. misfit_stays c.misfit-then-not-good_word.result c.misfit-then-not-good_word.ensures w,
@@ -96,7 +95,7 @@ misfit-requires-4 c κs = search rules
 returns-4 : tie.Need-returns-then-not-good_word-2
 returns-4 c =
     let o = c.before.before.before.before.before.before.before in
-    let bad = sym c.good_word-2.ensures ∙ not-true _ c.if-not-good_word-2.true in (
+    let bad = sym c.good_word-2.ensures ∙ c.if-not-good_word-2.true in (
       λ (w : List ℕ) f.
           misfit_told c.misfit-then-not-good_word-2.result c.misfit-then-not-good_word-2.ensures w (bad_replay _ _ _ _ _ bad (seven o) (nine o) (small_flag o)),
       λ (w : List ℕ) f. misfit_stays c.misfit-then-not-good_word-2.result c.misfit-then-not-good_word-2.ensures w,
@@ -123,12 +122,12 @@ shared-slice-read-mean c = search rules
 of-word-requires : tie.Need-of_word-requires
 of-word-requires c κs =
     let o = c.before.before.before.before.before in
-    passes _ (sym o.good_word.ensures ∙ not-false _ o.if-not-good_word.false)
+    passes _ (sym o.good_word.ensures ∙ o.if-not-good_word.false)
 
 of-word-requires-2 : tie.Need-of_word-requires-2
 of-word-requires-2 c κs =
     let o = c.before.before.before in
-    passes _ (sym o.good_word-2.ensures ∙ not-false _ o.if-not-good_word-2.false)
+    passes _ (sym o.good_word-2.ensures ∙ o.if-not-good_word-2.false)
 
 good-requires : tie.Need-good-fits-requires
 good-requires c κs = search rules
@@ -141,9 +140,9 @@ returns-5 c =
     let loss = c.of_word.ensures.1 in
     let replay = c.of_word-2.ensures.1 in (
       λ (w : List ℕ) f.
-          options_leave a.head w f a.journal.now a.start _ (rw (loss, replay)) _ c.good2.ensures
+          options_leave a.head w f a.journal.now a.start _ (rw (loss, replay)) _ c.good-fits.ensures
           ∙ options_fit _ _ _ _ _ (seven o) (nine o) (small_flag o),
-      λ (w : List ℕ) f. options_stay a.head w f a.journal.now a.start _ (rw (loss, replay)) _ c.good2.ensures,
+      λ (w : List ℕ) f. options_stay a.head w f a.journal.now a.start _ (rw (loss, replay)) _ c.good-fits.ensures,
     )
 
 pub undo_spec : {M : Type 1} → statement M

@@ -18,10 +18,12 @@ pub drop_above-requires : goal.drop_above-requires
 drop_above-requires c = (c.requires.0, small c.args.head c.args.w.now c.requires.1)
 
 pub returns : goal.returns
-returns c = let d = c.drop_above in
+returns c =
+    let d = c.drop_above in
     let size = c.if-end-start-ne-SEND_WORDS.false in
     let some = c.if-head-eq0.false in
-    let low : 8 ≤ c.args.end = omega (arith, size, c.requires.2, c.requires.3) in let told = let left =
-    send_leaves c.args.head c.args.w.now c.requires.1 c.requires.0 _ _ _ _ _ _ d.ensures.0 d.ensures.1 c.args.start _
+    let low : 8 ≤ c.args.end = omega (arith, size, c.requires.2, c.requires.3) in
+    let left =
+    send_leaves c.args.head c.args.w.now c.requires.1 c.requires.0 _ _ _ _ _ _ d.ensures.count d.ensures.words c.args.start _
     c.counts_good-fits.ensures in
-    (left.0 ∙ send_fits _ _ _ _ _ size low some, left.1) in record { undone = told.0; formed = told.1.0; whole = told.1.1 }
+    record { undone = left.0 ∙ send_fits _ _ _ _ _ size low some; formed = left.1.0; whole = left.1.1 }
