@@ -1,5 +1,4 @@
 -- `plants_verdicts::counts_fit` meets its contract: the three counts are tested one after the other. Assumes nothing.
-use borrow.Author.Rules.{rules}
 use borrow.Author.Tests.{le-leb, lt-leb}
 use Rattle.plants.specs.State.{limit, counts_fit}
 use Rattle.plants_verdicts.proofs.counts_fit.Goals as goal

@@ -1,23 +1,10 @@
 -- `plants_verdicts::first_refusal` meets its contract: a record that is passed was not refused, so what is left decides. Assumes nothing.
-use Prim.Native.Nat.{◌-◌, ◌≤◌}
+use Prim.Native.Nat.{◌-◌}
 use mathlib.Core.Path.{◌≡◌, sym, ◌∙◌}
-use mathlib.Core.List.{map}
 use native.Mathlib.Omega.{arith}
-use Rattle.nights.specs.Record.{recs}
-use Rattle.plants_verdicts.specs.Calls.{answer_on, state_answer, first_answer}
-use Rattle.plants_verdicts.proofs.Each.{asked, goes_on, stops, none_left}
+use Rattle.plants_verdicts.specs.Calls.{answer_on}
+use Rattle.plants_verdicts.proofs.Each.{goes_on, stops, none_left}
 use Rattle.plants_verdicts.proofs.first_refusal.Goals as goal
-use Rattle.plants_verdicts.proofs.first_refusal.Goals.{After-answer_on-number, At-loop-i, In-loop-i, Start}
-
--- once a record was asked
-abbrev in-loop : After-answer_on-number invariant-loop decreases-loop → In-loop-i invariant-loop decreases-loop
-in-loop c = c.before.before.before.before
-
-abbrev at : After-answer_on-number invariant-loop decreases-loop → At-loop-i invariant-loop decreases-loop
-at c = (in-loop c).before
-
-abbrev start : After-answer_on-number invariant-loop decreases-loop → Start invariant-loop decreases-loop
-start c = (at c).before.before
 
 pub loop-i-init : goal.loop-i-init
 loop-i-init c = let a = c.args in let z : a.count - 0 ≡ a.count = omega arith in (omega arith, rw z)
@@ -56,10 +43,10 @@ pub answer_on-number-requires : goal.answer_on-number-requires
 answer_on-number-requires c = (c.requires.0, c.requires.1)
 
 pub returns-then-number-ne0 : goal.returns-then-number-ne0
-returns-then-number-ne0 c = let a = (start x).args in
-    let l = (at x).loop-i in
+returns-then-number-ne0 c = let a = c.args in
+    let l = c.loop-i in
     let e = c.answer_on-number.ensures in
-    sym (l.invariant.1 ∙ (stops (answer_on a.words.now) a.records.now a.count _ l.i (in-loop x).loop-i-test.true (λ z. c.if-number-ne0.true (e ∙ z)) ∙ sym e))
+    sym (l.invariant.1 ∙ (stops (answer_on a.words.now) a.records.now a.count _ l.i c.loop-i-test.true (λ z. c.if-number-ne0.true (e ∙ z)) ∙ sym e))
 
 pub overflow_add-i : goal.overflow_add-i
 overflow_add-i c = omega arith
@@ -68,11 +55,11 @@ pub loop-i-smaller : goal.loop-i-smaller
 loop-i-smaller c = omega arith
 
 pub loop-i-preserved : goal.loop-i-preserved
-loop-i-preserved c = let a = (start x).args in
-    let l = (at x).loop-i in
+loop-i-preserved c = let a = c.args in
+    let l = c.loop-i in
     let e = c.answer_on-number.ensures in (
-      omega (arith, (in-loop x).loop-i-test.true),
-      l.invariant.1 ∙ goes_on (answer_on a.words.now) a.records.now a.count _ l.i (in-loop x).loop-i-test.true (sym e ∙ c.if-number-ne0.false),
+      omega (arith, c.loop-i-test.true),
+      l.invariant.1 ∙ goes_on (answer_on a.words.now) a.records.now a.count _ l.i c.loop-i-test.true (sym e ∙ c.if-number-ne0.false),
     )
 
 pub returns : goal.returns

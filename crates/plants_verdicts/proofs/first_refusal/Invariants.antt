@@ -1,10 +1,9 @@
 use Prim.Native.Nat.{◌-◌, ◌≤◌}
-use mathlib.Core.Path.{◌≡◌, sym, ◌∙◌}
+use mathlib.Core.Path.{◌≡◌}
 use mathlib.Core.List.{map}
-use native.Mathlib.Omega.{arith}
 use Rattle.nights.specs.Record.{recs}
 use Rattle.plants_verdicts.specs.Calls.{answer_on, state_answer, first_answer}
-use Rattle.plants_verdicts.proofs.Each.{asked, goes_on, stops, none_left}
+use Rattle.plants_verdicts.proofs.Each.{asked}
 use Rattle.plants_verdicts.proofs.first_refusal.Given as goal
 
 abbrev pub invariant-loop-i : goal.invariant-loop-i

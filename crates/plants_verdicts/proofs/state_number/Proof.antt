@@ -4,7 +4,6 @@ use mathlib.Core.Bool.{true, false}
 use mathlib.Core.Path.{◌≡◌, sym, ◌∙◌}
 use native.Mathlib.Omega.{arith}
 use borrow.Author.Rules.{rules}
-use borrow.Author.Tests.{not-true, not-false}
 use lib.ListN.{drop, get_or}
 use Rattle.basis.proofs.Laws.{between}
 use Rattle.plants.specs.State.{none_set}
@@ -19,11 +18,11 @@ in_shape c = sym c.shape-shape.ensures ∙ c.if-shape-ne0.false
 
 none_up : (c : tie.Else-not-none_past) → let s = plants_in c.args.words.now in
     none_set (drop s.n s.up) ≡ true
-none_up c = sym c.none_past.ensures ∙ not-false _ c.if-not-none_past.false
+none_up c = sym c.none_past.ensures ∙ c.if-not-none_past.false
 
 none_parted : (c : tie.Else-not-none_past-2) → let s = plants_in c.args.words.now in
     none_set (drop s.n s.partitioned) ≡ true
-none_parted c = sym c.none_past-2.ensures ∙ not-false _ c.if-not-none_past-2.false
+none_parted c = sym c.none_past-2.ensures ∙ c.if-not-none_past-2.false
 
 shape-requires : tie.Need-shape-shape-requires
 shape-requires c κs = search rules
@@ -48,7 +47,7 @@ returns-2 c =
     let n = c.before.before in
     let e = n.before.before.before in
     let w = e.args.words.now in
-    c.number.ensures ∙ ill_formed w (in_shape e) (up_past (plants_in w) (sym n.none_past.ensures ∙ not-true _ c.if-not-none_past.true))
+    c.number.ensures ∙ ill_formed w (in_shape e) (up_past (plants_in w) (sym n.none_past.ensures ∙ c.if-not-none_past.true))
 
 none-past-requires-2 : tie.Need-none_past-requires-2
 none-past-requires-2 c κs =
@@ -66,7 +65,7 @@ returns-3 c =
     let e = f.before.before.before.before in
     let w = e.args.words.now in
     c.number-then-not-none_past-2.ensures
-    ∙ ill_formed w (in_shape e) (parted_past (plants_in w) (none_up f) (sym n.none_past-2.ensures ∙ not-true _ c.if-not-none_past-2.true))
+    ∙ ill_formed w (in_shape e) (parted_past (plants_in w) (none_up f) (sym n.none_past-2.ensures ∙ c.if-not-none_past-2.true))
 
 counts-fit-requires : tie.Need-counts_fit-requires
 counts-fit-requires c κs = search rules
@@ -83,7 +82,7 @@ returns-4 c =
     let w = e.args.words.now in
     c.number-then-not-counts_fit.ensures
     ∙ ill_formed w (in_shape e)
-    (by_counts (plants_in w) (none_up f) false (none_parted g) (sym n.counts_fit.ensures ∙ not-true _ c.if-not-counts_fit.true))
+    (by_counts (plants_in w) (none_up f) false (none_parted g) (sym n.counts_fit.ensures ∙ c.if-not-counts_fit.true))
 
 returns-5 : tie.Need-returns
 returns-5 c =
@@ -93,7 +92,7 @@ returns-5 c =
     let e = f.before.before.before.before in
     let w = e.args.words.now in
     well_formed_lem w (in_shape e)
-    (by_counts (plants_in w) (none_up f) true (none_parted g) (sym n.counts_fit.ensures ∙ not-false _ c.if-not-counts_fit.false))
+    (by_counts (plants_in w) (none_up f) true (none_parted g) (sym n.counts_fit.ensures ∙ c.if-not-counts_fit.false))
 
 pub state_number_spec : {M : Type 1} → statement M
 state_number_spec = tie.close (tie.spec shape-requires returns element-copy-out-n none-past-requires number-requires returns-2 none-past-requires-2 number-requires-2 returns-3 counts-fit-requires number-requires-3 returns-4 returns-5)

@@ -38,7 +38,7 @@ mul-if1 : tie.Need-offset_bounds-words-receiver
 mul-if1 c = omega (arith, below c)
 
 element-copy-out-if1 : tie.Need-bounds-words-receiver
-element-copy-out-if1 c = omega (arith, below c)
+element-copy-out-if1 c = omega (arith, below c.before)
 
 number-requires : tie.Need-number-requires
 number-requires c κs = search rules

@@ -1,9 +1,8 @@
 -- `plants_words::put_core` meets its contract: the ids written so far stand behind the size and the picks used. Assumes nothing.
-use Prim.Native.Nat.{◌-◌, ◌≤◌}
 use mathlib.Core.Path.{◌≡◌, refl, ◌∙◌}
 use native.Mathlib.Omega.{arith}
 use lib.ListN.{length, set, length-set}
-use lib.Seq.{paste, paste-zero}
+use lib.Seq.{paste-zero}
 use Rattle.plants_layout.proofs.Writing.{one_more, all_written, two_and_more}
 use Rattle.plants_words.proofs.put_core.Goals as goal
 

@@ -1,9 +1,6 @@
 use Prim.Native.Nat.{◌-◌, ◌≤◌}
-use mathlib.Core.Path.{◌≡◌, refl, ◌∙◌}
-use native.Mathlib.Omega.{arith}
-use lib.ListN.{length, set, length-set}
-use lib.Seq.{paste, paste-zero}
-use Rattle.plants_layout.proofs.Writing.{one_more, all_written, two_and_more}
+use mathlib.Core.Path.{◌≡◌}
+use lib.Seq.{paste}
 use Rattle.plants_words.proofs.put_core.Given as goal
 
 abbrev pub invariant-loop-i : goal.invariant-loop-i
