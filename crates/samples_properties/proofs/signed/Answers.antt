@@ -16,6 +16,9 @@ below (suc m) h =
     let e : m ≡ 0 + m = omega arith in
     record { sfits = subst (λ (k : ℕ). suc k < 2 ^ hbits w64) e h }
 
+pub overflow_cast-result-2 : goal.overflow_cast-result-2
+overflow_cast-result-2 c = search rules
+
 pub overflow_sub-result-2 : goal.overflow_sub-result-2
-overflow_sub-result-2 c = let h = (cast-result-2 c).sfits in
+overflow_sub-result-2 c = let h = (overflow_cast-result-2 c).sfits in
     subst (λ (z : ℤ). SFits w64 (negsuc 0 -ℤ z)) (sym (to_z_pos w64 h)) (below _ h)
