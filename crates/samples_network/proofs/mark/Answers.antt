@@ -1,6 +1,5 @@
 -- `samples_network::mark` is safe and ends. Assumes nothing.
 use native.Mathlib.Omega.{arith}
-use borrow.Author.Rules.{rules}
 use mathlib.Core.Path.{sym}
 use lib.Seq.{length-take-le}
 use Rattle.samples_network.proofs.mark.Goals as goal

@@ -1,6 +1,5 @@
 -- `samples_properties::reboot` is safe and ends. Assumes nothing.
 use native.Mathlib.Omega.{arith}
-use borrow.Author.Rules.{rules}
 use mathlib.Core.Path.{sym}
 use lib.Seq.{length-take-le}
 use Rattle.samples_properties.proofs.reboot.Goals as goal
