@@ -1,5 +1,5 @@
 -- The bytes read lie within what was lent, which keeps its length.
-use Rattle.std.proofs.Common.{length, ◌-◌, ◌≡◌, ◌≤◌}
+use Rattle.std.proofs.Common.{length, ◌-◌, ◌≤◌}
 use Rattle.input.proofs.read_all.Given as goal
 
 abbrev pub invariant-loop-done : goal.invariant-loop-done
