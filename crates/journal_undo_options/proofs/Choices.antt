@@ -17,7 +17,6 @@ use Rattle.network_options.specs.Options.{plain_options}
 use Rattle.network_form.specs.declared.Head.{Head}
 use Rattle.network_form.specs.Forms.{plain_in, formed_in}
 use Rattle.network_form.proofs.Maps.{plain_formed}
-use Rattle.journal_tests.specs.declared.Undone.{Undone}
 use Rattle.journal_tests.specs.Undone.{undone_in}
 use Rattle.journal_tests.proofs.Laws.{options_break}
 

@@ -1,11 +1,9 @@
 -- What an answer says of the lent words: a refusal leaves them, and a call that is done writes them. Assumes nothing.
 use mathlib.Core.Path.{◌≡◌, ◌∙◌}
-use mathlib.Core.List.{List, ◌++◌}
+use mathlib.Core.List.{List}
 use mathlib.Core.Bool.{true, false}
 use Prim.Native.Nat.{ℕ}
-use lib.ListN.{length, drop}
 use Rattle.nights.specs.Tests.{Answer, done, refused, if_done}
-use Rattle.network_form.specs.Calls.{written}
 use Rattle.network_layout.specs.Layout.{head_fits, answer_code, if_head}
 use Rattle.network_layout.proofs.Heads.{no_head, a_head}
 

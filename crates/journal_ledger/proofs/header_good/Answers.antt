@@ -1,7 +1,6 @@
 -- `journal_ledger::header_good` meets its contract: each clause in turn. Assumes nothing.
 use native.Mathlib.Omega.{arith}
 use Rattle.journal_ledger.proofs.Words.{too_short, used_low, used_high, held_told}
-use borrow.Author.Rules.{rules}
 use Rattle.journal_ledger.proofs.header_good.Goals as goal
 
 pub returns-then-journal-lt-HEADER : goal.returns-then-journal-lt-HEADER

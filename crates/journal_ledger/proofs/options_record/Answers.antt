@@ -3,7 +3,6 @@ use mathlib.Core.Path.{◌≡◌}
 use mathlib.Core.Bool.{Bool, true}
 use lib.Dec.{T}
 use Rattle.network_options.proofs.OptionForms.{good_chances}
-use borrow.Author.Rules.{rules}
 use Rattle.journal_ledger.proofs.options_record.Goals as goal
 
 passes : {b : Bool} → b ≡ true → T b

@@ -1,10 +1,9 @@
 -- `journal_ledger::write_at` meets its contract: the words written so far stand over the others. Assumes nothing.
-use Prim.Native.Nat.{◌-◌, ◌≤◌}
 use mathlib.Core.Path.{◌≡◌, refl, ◌∙◌}
 use native.Mathlib.Omega.{arith}
 use native.Mathlib.Numerals.{add-one}
 use lib.ListN.{length, length-set}
-use lib.Seq.{paste, paste-zero, paste-suc}
+use lib.Seq.{paste-zero, paste-suc}
 use Rattle.journal_ledger.proofs.Words.{pasted}
 use Rattle.journal_ledger.proofs.write_at.Goals as goal
 

@@ -3,7 +3,6 @@ use Rattle.journal_ledger.proofs.Words.{headed}
 use Rattle.journal_mark.proofs.Marks.{mark_short, mark_long}
 use mathlib.Core.Path.{sym, ap, ◌∙◌}
 use Rattle.nights.specs.Journal.{Step}
-use borrow.Author.Rules.{rules}
 use Rattle.journal_mark.proofs.mark.Goals as goal
 
 pub returns-then-journal-lt-HEADER : goal.returns-then-journal-lt-HEADER

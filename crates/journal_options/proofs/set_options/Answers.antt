@@ -1,7 +1,7 @@
 -- `journal_options::set_options` meets its contract: the plain call, then the journal's tests, then the record of the old options. Assumes nothing.
 use mathlib.Core.Path.{◌≡◌, refl, sym, ap, ◌∙◌}
 use lib.ListN.{length}
-use Rattle.nights.specs.Net.{Change, choose}
+use Rattle.nights.specs.Net.{choose}
 use Rattle.nights.specs.Journal.{undo_words}
 use Rattle.nights.proofs.Kept.{options_good}
 use Rattle.network_options.specs.Options.{plain_options}

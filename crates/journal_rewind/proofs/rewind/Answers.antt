@@ -2,7 +2,6 @@
 use mathlib.Core.Path.{sym, ap, ◌∙◌}
 use Rattle.network_options.specs.Answers.{settled_of}
 use Rattle.journal_rewind.proofs.Rewinds.{stays}
-use borrow.Author.Rules.{rules}
 use Rattle.journal_rewind.proofs.rewind.Goals as goal
 
 pub returns-in_default : goal.returns-in_default

@@ -1,5 +1,5 @@
 -- `journal_rewind::rewind_in` meets its contract: each test in turn, and then the undoing of the last k. Assumes nothing.
-use mathlib.Core.Path.{◌≡◌, sym, ◌∙◌}
+use mathlib.Core.Path.{sym, ◌∙◌}
 use native.Mathlib.Omega.{arith}
 use borrow.Author.Rules.{rules}
 use borrow.Author.Tests.{not-true, not-false}

@@ -9,8 +9,8 @@ use lib.Seq.{length-take-le}
 use Rattle.nights.specs.Record.{Record, record_words}
 use Rattle.nights.specs.Net.{Change, collect, keep, is_due}
 use Rattle.basis.specs.Basis.{laid}
-use Rattle.nights.specs.Tests.{Answer, done, verdict, if_done}
-use Rattle.nights.specs.Journal.{logged, undo_words, journal_tests}
+use Rattle.nights.specs.Tests.{Answer, done, if_done}
+use Rattle.nights.specs.Journal.{logged, undo_words}
 use Rattle.network.specs.declared.Network.{Network}
 use Rattle.network_options.specs.Answers.{settled_of}
 use Rattle.network_take.specs.declared.Counted.{Counted}

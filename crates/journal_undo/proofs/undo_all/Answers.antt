@@ -2,7 +2,7 @@
 use mathlib.Core.Path.{refl}
 use native.Mathlib.Omega.{arith}
 use borrow.Author.Tests.{not-true, not-false}
-use Rattle.journal_undo.proofs.Undoing.{Undoing, stops, goes_on, ends}
+use Rattle.journal_undo.proofs.Undoing.{stops, goes_on, ends}
 use Rattle.journal_undo.proofs.undo_all.Goals as goal
 
 pub loop-left-init : goal.loop-left-init

@@ -1,7 +1,6 @@
 -- `journal_undo::undo_one` meets its contract. Assumes nothing.
 use mathlib.Core.Path.{◌∙◌}
 use native.Mathlib.Omega.{arith}
-use borrow.Author.Rules.{rules}
 use Rattle.journal_tests.proofs.Telling.{told_misfit}
 use Rattle.journal_undo.proofs.Telling.{no_room, no_sort, by_sort}
 use Rattle.journal_undo.proofs.undo_one.Goals as goal

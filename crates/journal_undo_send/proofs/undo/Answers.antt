@@ -2,7 +2,6 @@
 use Prim.Native.Nat.{◌≤◌}
 use mathlib.Core.Path.{◌∙◌}
 use native.Mathlib.Omega.{arith}
-use borrow.Author.Rules.{rules}
 use Rattle.network_form.proofs.Maps.{small}
 use Rattle.journal_tests.proofs.Telling.{told_misfit}
 use Rattle.journal_undo_send.proofs.Sends.{send_size, none_sent, send_fits, send_leaves}

@@ -1,7 +1,6 @@
 -- `journal_undo_take::put_back` meets its contract: the walk of `PuttingBack`. Assumes nothing.
-use Prim.Native.Nat.{◌-◌}
 use native.Mathlib.Omega.{arith}
-use Rattle.journal_undo_take.proofs.PuttingBack.{Putting, start, put_one, all_put}
+use Rattle.journal_undo_take.proofs.PuttingBack.{start, put_one, all_put}
 use Rattle.journal_undo_take.proofs.put_back.Goals as goal
 
 pub loop-i-init : goal.loop-i-init

@@ -1,6 +1,5 @@
 use Prim.Native.Nat.{◌-◌}
-use native.Mathlib.Omega.{arith}
-use Rattle.journal_undo_take.proofs.PuttingBack.{Putting, start, put_one, all_put}
+use Rattle.journal_undo_take.proofs.PuttingBack.{Putting}
 use Rattle.journal_undo_take.proofs.put_back.Given as goal
 
 abbrev pub invariant-loop-i : goal.invariant-loop-i

@@ -1,7 +1,6 @@
 -- `journal_undo_take::undo` meets its contract. Assumes nothing.
 use mathlib.Core.Path.{refl, ◌∙◌}
 use native.Mathlib.Omega.{arith}
-use borrow.Author.Rules.{rules}
 use Rattle.network_queue.proofs.Inserting.{length-recs}
 use Rattle.network_form.proofs.Maps.{small}
 use Rattle.journal_tests.proofs.Telling.{misfit_told, misfit_stays, told_misfit}

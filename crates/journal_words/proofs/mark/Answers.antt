@@ -1,7 +1,6 @@
 -- `journal_words::mark` meets its contract. Assumes nothing.
 use mathlib.Core.Path.{ap, ◌∙◌}
 use Rattle.network_layout.specs.Layout.{answer_code}
-use borrow.Author.Rules.{rules}
 use Rattle.journal_words.proofs.mark.Goals as goal
 
 pub returns : goal.returns

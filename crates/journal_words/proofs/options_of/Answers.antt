@@ -1,5 +1,4 @@
 -- `journal_words::options_of` meets its contract. Assumes nothing.
-use borrow.Author.Rules.{rules}
 use Rattle.journal_words.proofs.options_of.Goals as goal
 
 pub returns : goal.returns

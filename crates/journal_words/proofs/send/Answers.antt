@@ -1,11 +1,11 @@
 -- `journal_words::send` meets its contract: the journal's send on the network of the words. Assumes nothing.
-use mathlib.Core.Path.{◌≡◌, ap, ◌∙◌}
+use mathlib.Core.Path.{◌∙◌}
 use mathlib.Core.Bool.{true, false}
 use borrow.Author.Tests.{not-true, not-false}
 use Rattle.nights.specs.Journal.{Call}
 use Rattle.journal_calls.specs.Calls.{sends, answer_of}
 use Rattle.journal_words.specs.Calls.{network_in, journal_answer}
-use Rattle.network_layout.proofs.Heads.{told_fits, head_read}
+use Rattle.network_layout.proofs.Heads.{told_fits}
 use Rattle.journal_words.proofs.Told.{Kept, unread}
 use Rattle.network_words.proofs.Told.{sent_refused, sent_done, sent_told}
 use Rattle.journal_words.proofs.After.{left, wrote, read_is}

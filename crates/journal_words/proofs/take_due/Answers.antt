@@ -1,16 +1,11 @@
 -- `journal_words::take_due` meets its contract: the journal's take on the network of the words. Assumes nothing.
 use Prim.Native.Nat.{ℕ}
-use mathlib.Core.Path.{sym, ap, ◌∙◌}
+use mathlib.Core.Path.{ap, ◌∙◌}
 use mathlib.Core.Bool.{true, false}
 use mathlib.Core.List.{[], ◌∷◌}
 use borrow.Author.Tests.{not-true, not-false}
 use lib.ListN.{length}
-use Rattle.nights.specs.Record.{record_words}
-use Rattle.nights.specs.Net.{keep, is_due}
-use Rattle.nights.specs.Tests.{Answer}
 use Rattle.nights.specs.Journal.{Call}
-use Rattle.network.specs.Forms.{plain_of}
-use Rattle.network_form.specs.Calls.{written}
 use Rattle.journal_calls.specs.Calls.{takes, answer_of}
 use Rattle.journal_words.specs.Calls.{network_in, journal_answer}
 use Rattle.network_layout.proofs.Heads.{told_fits, a_head}

@@ -1,7 +1,6 @@
 -- `journal_words::write` meets its contract: a well-formed network has good options. Assumes nothing.
 use mathlib.Core.Path.{refl}
 use Rattle.network.proofs.Structs.{formed_options}
-use borrow.Author.Rules.{rules}
 use Rattle.journal_words.proofs.write.Goals as goal
 
 pub store-requires : goal.store-requires
