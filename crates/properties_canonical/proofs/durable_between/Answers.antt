@@ -1,6 +1,5 @@
 -- `properties_canonical::durable_between` meets its contract. The loop's invariant: at the indexes passed it holds. Assumes nothing.
 use native.Mathlib.Omega.{arith}
-use mathlib.Core.Bool.{false≢true}
 use Prim.Native.Nat.{◌≤◌}
 use Rattle.properties_snapshots.specs.Cluster.{cluster_in}
 use Rattle.properties_snapshots.proofs.Below.{below_more}
@@ -15,9 +14,6 @@ loop-i-init c = λ k h g. absurd (omega arith)
 pub canonical_copies-requires : goal.canonical_copies-requires
 canonical_copies-requires c = let pre = c.requires.snapshot in
     (pre.0, pre.1, pre.2, omega (arith, c.loop-i-test.true, pre.3))
-
-pub returns-then-canonical_copies-needed : goal.returns-then-canonical_copies-needed
-returns-then-canonical_copies-needed c = λ e. absurd (false≢true e)
 
 pub overflow_add-i : goal.overflow_add-i
 overflow_add-i c = omega (arith, c.requires.snapshot.3, c.loop-i-test.true)
@@ -34,7 +30,6 @@ loop-i-preserved c = let a = c.args in
     enough k r loop.i (omega (
       arith,
       pre.by_index a.logs.now a.tracker.now,
-      c.if-canonical_copies-needed.false,
       c.canonical_copies.ensures r h (omega (arith, m, commit_held a.n a.plants.now a.logs.now a.tracker.now r h)),
     )))
 
