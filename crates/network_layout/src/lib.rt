@@ -74,6 +74,7 @@ fn no_head() -> Loaded
 }
 
 // The head of the words.
+#[tactic(auto, using(crate::proofs::Heads::no_loss, crate::proofs::Heads::no_replay, crate::proofs::Heads::no_flag, crate::proofs::Heads::fitting, crate::proofs::Heads::not_loaded, crate::proofs::Heads::is_loaded))]
 pub fn load(words: &[u64; HEAD_WORDS]) -> Loaded
     ensures { result ≡ loaded words.now }
 {

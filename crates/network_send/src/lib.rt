@@ -136,6 +136,7 @@ fn told_by(decision: Decision) -> SendAnswer
 }
 
 // A send on a well-formed network.
+#[tactic(auto, using(crate::proofs::Testing::unsent, crate::proofs::Testing::limit_met, crate::proofs::Testing::limit_head, crate::proofs::Testing::limit_records))]
 pub fn send_on(
     w: &mut [u64; WORDS],
     head: Head,
