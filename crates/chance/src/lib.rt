@@ -18,6 +18,7 @@ pub enum Draw {
 }
 
 // 0 <= p <= 1, and no NaN.
+#[tactic(auto, using(crate::proofs::GoodByComparison::compared_then, crate::proofs::GoodByComparison::compared_else))]
 pub fn good(p: f64) -> bool
     ensures { result ≡ good_probability p }
 {
@@ -49,6 +50,7 @@ pub fn word_of(p: f64) -> u64
 
 // The whole part of p * 2^64, for a good p other than 1. The exponent's mask leaves out the sign, which
 // negative zero has.
+#[tactic(auto, using(crate::proofs::ThresholdByShifts::cut_up, crate::proofs::ThresholdByShifts::cut_down, crate::proofs::ThresholdByShifts::cut_off, crate::proofs::ThresholdByShifts::exponent_lt, crate::proofs::ThresholdByShifts::exponent_is, crate::proofs::ThereAndBack::no_nan))]
 fn threshold(p: f64) -> u64
     requires t { T (good_probability p) }
     requires p_value { is_one p ≡ false }

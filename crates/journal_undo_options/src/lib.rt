@@ -13,6 +13,7 @@ use network_options::NetworkOptions;
 
 // The network before the change of options whose record stands from `start` up to `end`, whatever its words are. The options alone are
 // tested, and words that are no good probability are refused before one is made of them.
+#[tactic(auto, using(journal_tests::proofs::Telling::misfit_told, journal_tests::proofs::Telling::misfit_stays, crate::proofs::Choices::options_size, crate::proofs::Choices::bad_flag, crate::proofs::Choices::bad_loss, crate::proofs::Choices::bad_replay, crate::proofs::Choices::options_fit, crate::proofs::Choices::options_leave, crate::proofs::Choices::options_stay))]
 pub fn undo(head: Head, journal: &[u64], start: usize, end: usize) -> Undone
     requires { (2 ≤ start) × (start ≤ end) × (end ≤ length journal.now) }
     ensures undone { (w : List ℕ) → formed_in head w ≡ true
