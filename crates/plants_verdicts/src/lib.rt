@@ -79,6 +79,7 @@ fn state_number(words: &[u64; WORDS]) -> u64
 }
 
 // What the single call answers, from what the state answers.
+#[tactic(auto, using(crate::proofs::Judging::unsorted, crate::proofs::Judging::state_refuses, crate::proofs::Judging::no_receiver, crate::proofs::Judging::no_sender, crate::proofs::Judging::from_plant, crate::proofs::Judging::from_client))]
 fn answer_on(words: &[u64; WORDS], state: u64, sort: u64, id: u64, to: u64) -> u64
     requires { (length words.now ≡ state_size) × (state ≡ state_answer words.now) }
     ensures { result ≡ verdict_answer words.now sort id to }
@@ -102,6 +103,7 @@ fn answer_on(words: &[u64; WORDS], state: u64, sort: u64, id: u64, to: u64) -> u
 }
 
 // What the single call tells, where it is not refused.
+#[tactic(auto, using(crate::proofs::Judging::receiver_below, crate::proofs::Judging::sender_below, crate::proofs::Judging::told_down, crate::proofs::Judging::told_cut, crate::proofs::Judging::told_sender_cut, crate::proofs::Judging::told_from_plant, crate::proofs::Judging::told_from_client))]
 fn told_on(words: &[u64; WORDS], sort: u64, id: u64, to: u64) -> u64
     requires { (length words.now ≡ state_size) × (verdict_answer words.now sort id to ≡ 0) }
     ensures { result ≡ get_or (verdict_words words.now sort id to (0 ∷ [])) 0 0 }
@@ -163,6 +165,7 @@ fn put_verdicts(words: &[u64; WORDS], records: &[u64], told: &mut [u64])
 }
 
 // What becomes of the messages of a take, a record of eight words each: a verdict is told for each.
+#[tactic(auto, using(crate::proofs::Each::uneven, crate::proofs::Each::one_refused, crate::proofs::Each::all_told))]
 pub fn verdicts(words: &[u64; WORDS], records: &[u64], told: &mut [u64]) -> u64
     ensures answer { result ≡ verdicts_answer words.now records.now told.old }
     ensures told { told.new ≡ verdicts_words words.now records.now told.old }
