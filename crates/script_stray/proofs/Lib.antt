@@ -1,3 +1,4 @@
 -- The walk finds the stray line.
 pub mod Walking
 pub mod Sure
+pub mod Plain

@@ -245,6 +245,7 @@ fn comment_end(text: &[u8], from: usize) -> usize
 }
 
 // Whether no byte over 127 stands before a line's `#`. What is behind it is passed over, up to the line feed.
+#[tactic(auto, using(crate::proofs::Plain::over, crate::proofs::Plain::other, crate::proofs::Plain::passed, crate::proofs::Plain::onward, crate::proofs::Plain::inside, crate::proofs::Plain::all_passed))]
 fn words_plain(text: &[u8]) -> bool
     ensures { result ≡ words_plain false text.now }
 {
