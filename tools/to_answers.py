@@ -628,15 +628,11 @@ class Converter:
         m = re.match(rf"tie\.Need-({ID})", t)
         env = dict(env)
         if m:
-            key = strip_need(m[1])
-            if key not in fn.needs:
-                self.warn(f"no goal for {m[1]}")
-                self.ans.append("-- left: " + (sraw + "\n" + name + " " + params + " = " + body).replace("\n", "\n-- "))
+            key = self.goal(m[1], name, sraw, params, body, env)
+            if not key:
                 return
-            old, new = fn.needs[key]
+            new = fn.needs[key][1]
             ps = params.split()
-            if ps and fn.need_place[key] is not None:
-                env[ps[0]] = ("place", fn.need_place[key])
             plain = body.strip()
             if new.startswith("enum_known") or plain in ("search rules", "tt", "search (rules, arith)"):
                 self.dropped += 1
@@ -651,39 +647,7 @@ class Converter:
         # a helper
         self.collect_places(typ)
         self.collect_places(body)
-        names = []
-        for bm in BINDER.finditer(typ):
-            names += [(v, bm[2]) for v in bm[1].split()]
-        plist = re.findall(rf"\((?:[^()]|\([^()]*\))*\)|\{{[^{{}}]*\}}|\[\]|{ID}", params)
-        binders = re.findall(rf"\(((?:{ID} )*{ID}) :|\{{((?:{ID} )*{ID}) :", typ)
-        order = [v for a, b in binders for v in (a or b).split() if a]
-        for v, pl in names:
-            p = fn.place(pl)
-            if p is None:
-                self.warn(f"no place {pl}")
-                continue
-            env[v] = ("place", p)
-            if v in order and order.index(v) < len(plist):
-                env[plist[order.index(v)]] = ("place", p)
-        # places without a binder: `tie.P → ..`
-        arrows = re.split(r"→", typ)
-        k = 0
-        for a in arrows[:-1]:
-            a = a.strip()
-            am = re.fullmatch(rf"tie\.({ID})(?: .*)?", a)
-            if am and k < len(plist):
-                p = fn.place(am[1])
-                if p is not None:
-                    env[plist[k]] = ("place", p)
-            bm = re.findall(rf"\(((?:{ID} )*{ID}) :", a)
-            k += sum(len(x.split()) for x in bm) if bm else 1
-        res = re.fullmatch(rf"tie\.({ID})(?: .*)?", arrows[-1].strip())
-        if res and fn.place(res[1]) is not None:
-            self.funcs[name] = fn.place(res[1])
-            env_self = ("place", fn.place(res[1]))
-            self.pending_var = (name, env_self)
-        if res and not top and not params:
-            self.module_env[name] = ("place", fn.place(res[1]))
+        self.helper(name, typ, params, env, top)
         b = Body(fn, {**self.module_env, **env} if not top else env, self.funcs, self.warn)
         if sraw:
             self.ans.append(pad + b.turn(sraw.strip()))
@@ -693,6 +657,54 @@ class Converter:
         self.ans.append("")
         if top:
             self.locals.append(name)
+
+    def goal(self, need, name, sraw, params, body, env):
+        """The key of the goal that an answer is for, with the answer's first argument at the goal's place; None where there is none."""
+        key = strip_need(need)
+        if key not in self.fn.needs:
+            self.warn(f"no goal for {need}")
+            self.ans.append("-- left: " + (sraw + "\n" + name + " " + params + " = " + body).replace("\n", "\n-- "))
+            return None
+        ps = params.split()
+        if ps and self.fn.need_place[key] is not None:
+            env[ps[0]] = ("place", self.fn.need_place[key])
+        return key
+
+    def helper(self, name, typ, params, env, top):
+        """Notes the places that a helper's arguments stand at, by its type, and the place that it gives, if it gives one."""
+        fn = self.fn
+        plist = re.findall(rf"\((?:[^()]|\([^()]*\))*\)|\{{[^{{}}]*\}}|\[\]|{ID}", params)
+        binders = re.findall(rf"\(((?:{ID} )*{ID}) :|\{{((?:{ID} )*{ID}) :", typ)
+        order = [v for a, b in binders for v in (a or b).split() if a]
+        for v, old in [(v, bm[2]) for bm in BINDER.finditer(typ) for v in bm[1].split()]:
+            p = fn.place(old)
+            if p is None:
+                self.warn(f"no place {old}")
+                continue
+            env[v] = ("place", p)
+            if order and v == order[0]:
+                self.takes[name] = p
+            if v in order and order.index(v) < len(plist):
+                env[plist[order.index(v)]] = ("place", p)
+        # places without a binder: `tie.P → ..`
+        arrows = re.split(r"→", typ)
+        k = 0
+        for a in arrows[:-1]:
+            m = re.fullmatch(rf"tie\.({ID})(?: .*)?", a.strip())
+            p = fn.place(m[1]) if m and k < len(plist) else None
+            if p is not None:
+                env[plist[k]] = ("place", p)
+                if k == 0:
+                    self.takes[name] = p
+            bm = re.findall(rf"\(((?:{ID} )*{ID}) :", a)
+            k += sum(len(x.split()) for x in bm) if bm else 1
+        m = re.fullmatch(rf"tie\.({ID})(?: .*)?", arrows[-1].strip())
+        p = fn.place(m[1]) if m else None
+        if p is not None:
+            self.funcs[name] = p
+            if not top and not params:
+                self.module_env[name] = ("place", p)
+        return p
 
     def invariant(self, name, kind, loop, params, body):
         fn = self.fn
@@ -762,50 +774,11 @@ class Walker(Converter):
         env = dict(env)
         m = re.match(rf"tie\.Need-({ID})", t)
         if m:
-            key = strip_need(m[1])
-            if key not in fn.needs:
-                self.warn(f"no goal for {m[1]}")
-                self.ans.append("-- left: " + (sraw + "\n" + name + " " + params + " = " + body).replace("\n", "\n-- "))
+            key = self.goal(m[1], name, sraw, params, body, env)
+            if not key:
                 return
             self.has[fn.needs[key][1]] = name
-            ps = params.split()
-            if ps and fn.need_place[key] is not None:
-                env[ps[0]] = ("place", fn.need_place[key])
-        names = []
-        plist = re.findall(rf"\((?:[^()]|\([^()]*\))*\)|\{{[^{{}}]*\}}|\[\]|{ID}", params)
-        if not m:
-            for bm in BINDER.finditer(typ):
-                names += [(v, bm[2]) for v in bm[1].split()]
-            binders = re.findall(rf"\(((?:{ID} )*{ID}) :|\{{((?:{ID} )*{ID}) :", typ)
-            order = [v for a, b in binders for v in (a or b).split() if a]
-            for v, pl in names:
-                p = fn.place(pl)
-                if p is None:
-                    self.warn(f"no place {pl}")
-                    continue
-                env[v] = ("place", p)
-                if order and v == order[0]:
-                    self.takes[name] = p
-                if v in order and order.index(v) < len(plist):
-                    env[plist[order.index(v)]] = ("place", p)
-            arrows = re.split(r"→", typ)
-            k = 0
-            for a in arrows[:-1]:
-                a = a.strip()
-                am = re.fullmatch(rf"tie\.({ID})(?: .*)?", a)
-                if am and k < len(plist):
-                    p = fn.place(am[1])
-                    if p is not None:
-                        env[plist[k]] = ("place", p)
-                        if k == 0:
-                            self.takes[name] = p
-                bm = re.findall(rf"\(((?:{ID} )*{ID}) :", a)
-                k += sum(len(x.split()) for x in bm) if bm else 1
-            res = re.fullmatch(rf"tie\.({ID})(?: .*)?", arrows[-1].strip())
-            if res and fn.place(res[1]) is not None:
-                self.funcs[name] = fn.place(res[1])
-                if not top and not params:
-                    self.module_env[name] = ("place", fn.place(res[1]))
+        given = None if m else self.helper(name, typ, params, env, top)
         if self.module_place is not None and not m:
             self.takes[name] = self.module_place
         b = Body(fn, {**self.module_env, **env} if not top else env, self.funcs, self.warn)
@@ -814,8 +787,8 @@ class Walker(Converter):
             self.ans.append(pad + b.turn(sraw.strip()))
         for p in pending:
             self.ans.append(p)
-        if not m and res and fn.place(res[1]) is not None:
-            fixed = b.exact(body.strip(), fn.place(res[1]))
+        if given is not None:
+            fixed = b.exact(body.strip(), given)
             body = " " + fixed if fixed else body
         self.ans.append(f"{pad}{name}{' ' if params else ''}{params} = {b.turn(body)}")
         self.ans.append("")
