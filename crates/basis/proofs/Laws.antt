@@ -1,19 +1,15 @@
 -- Two tests that both hold, a number of plants by its tests, and a bool's number. Assumes nothing.
-use borrow.Author.Tests.{le-leb, lt-leb, leb-true}
+use borrow.Author.Tests.{le-leb, leb-true}
 use mathlib.Core.Bool.{Bool, true, false, ◌&&◌}
 use mathlib.Core.Path.{◌≡◌, refl}
 use native.Mathlib.Omega.{arith}
-use Prim.Native.Nat.{ℕ, ◌≤◌, ◌<◌}
+use Prim.Native.Nat.{ℕ, ◌≤◌}
 use lib.Dec.{leb}
 use Rattle.basis.specs.Basis.{fewest, most, plant_count, bit}
 
 pub both : (a b : Bool) → a && b ≡ true → (a ≡ true) × (b ≡ true)
 both true b e = (refl, e)
 both false b e = let z : ◌≡◌ {A = ℕ} 0 1 = cc in absurd (omega arith)
-
-pub too_few : (n : ℕ) → n < fewest → plant_count n ≡ false
-unfolding plant_count
-too_few n h = rw (lt-leb fewest n h)
 
 pub not_few : (n : ℕ) → fewest ≤ n → plant_count n ≡ leb n most
 unfolding plant_count

@@ -1,6 +1,8 @@
 // The boundary for the host: our calls over numbers and lent words. A state and an answer are lent words; a call returns 0, or the number
 // of its refusal, and on a refusal no lent word changes. bellmantle_c exports each of these calls for a program in another language to
 // link, and include/bellmantle.h declares each function, each word of each layout and each number.
+// Kept: in each of these calls the C interface fixes the parameters one by one, the lent rows with their lengths beside them, and a number
+// for an answer.
 #![tactic(auto)]
 
 ghost use Rattle.std.specs.Prelude.{◌≡◌, [], ◌∷◌, length};
@@ -26,6 +28,9 @@ ghost use Rattle.properties_tick.specs.Calls.{tick_answer, tick_words};
 ghost use Rattle.properties_end.specs.Calls.{end_answer};
 ghost use Rattle.properties_told.specs.Told.{answer_number, answer_told};
 ghost use Rattle.script_packed.specs.Packing.{answer_word};
+
+use network_layout::OptionWords;
+use network_send::Letter;
 
 // ---- Fault scripts
 
@@ -55,7 +60,17 @@ pub fn bellmantle_network_new(
     ensures head { head.new ≡ (new_rows head.old records.old (options_from loss replay min mean flag)).head }
     ensures records { records.new ≡ (new_rows head.old records.old (options_from loss replay min mean flag)).records }
 {
-    network_words::new(head, records, loss, replay, min, mean, flag)
+    network_words::new(
+        head,
+        records,
+        OptionWords {
+            loss,
+            replay,
+            min,
+            mean,
+            flag,
+        },
+    )
 }
 
 // Replaces the options.
@@ -71,7 +86,17 @@ pub fn bellmantle_network_set_options(
     ensures answer { result ≡ (option_rows head.old records.now (options_from loss replay min mean flag)).number }
     ensures head { head.new ≡ (option_rows head.old records.now (options_from loss replay min mean flag)).head }
 {
-    network_words::set_options(head, records, loss, replay, min, mean, flag)
+    network_words::set_options(
+        head,
+        records,
+        OptionWords {
+            loss,
+            replay,
+            min,
+            mean,
+            flag,
+        },
+    )
 }
 
 // Accepts a message sent at tick `now`: whether it was lost, whether it was replayed, and the draws and extras used are told.
@@ -97,13 +122,13 @@ pub fn bellmantle_network_send(
     ensures told { told.new ≡ (send_rows head.old records.old (letter_of now sort origin to kind handle)
         draws.now extras.now told.old).told }
 {
-    let letter = network_send::Letter {
-        now: now,
-        sort: sort,
-        origin: origin,
-        to: to,
-        kind: kind,
-        handle: handle,
+    let letter = Letter {
+        now,
+        sort,
+        origin,
+        to,
+        kind,
+        handle,
     };
     network_words::send(head, records, letter, draws, extras, told)
 }
@@ -126,9 +151,14 @@ pub fn bellmantle_fate(
     ensures told { told.new ≡ fate_words (options_from loss replay min mean flag) now kind draws.now
         extras.now told.old }
 {
-    network_fate::fate(
-        loss, replay, min, mean, flag, now, kind, draws, extras, told,
-    )
+    let options = OptionWords {
+        loss,
+        replay,
+        min,
+        mean,
+        flag,
+    };
+    network_fate::fate(options, now, kind, draws, extras, told)
 }
 
 // Takes every message due at tick `now` to the front of the lent output: how many they are is told.
@@ -238,9 +268,15 @@ pub fn bellmantle_journal_send(
         ≡ if_done (journal_answer (sends now sort origin to kind handle draws.now extras.now) head.old records.old journal.old)
         (send_told (decided (plain_in (head_in head.old) records.old).options now kind draws.now extras.now)) told.old }
 {
-    journal_words::send(
-        head, records, now, sort, origin, to, kind, handle, draws, extras, journal, told,
-    )
+    let letter = Letter {
+        now,
+        sort,
+        origin,
+        to,
+        kind,
+        handle,
+    };
+    journal_words::send(head, records, letter, draws, extras, journal, told)
 }
 
 // A journaled take.
@@ -281,7 +317,14 @@ pub fn bellmantle_journal_set_options(
     ensures head { head.new ≡ journal_head (chooses (options_from loss replay min mean flag)) head.old records.now journal.old }
     ensures journal { journal.new ≡ journal_words (chooses (options_from loss replay min mean flag)) head.old records.now journal.old }
 {
-    journal_words::set_options(head, records, loss, replay, min, mean, flag, journal)
+    let options = OptionWords {
+        loss,
+        replay,
+        min,
+        mean,
+        flag,
+    };
+    journal_words::set_options(head, records, options, journal)
 }
 
 // Goes back over the last k calls held.

@@ -1,5 +1,6 @@
 // The boundary's calls as a program in another language links them: each export calls bellmantle's function of its name, under the same
 // clauses. include/bellmantle.h declares each function, each word of each layout and each number.
+// Kept: the C interface needs an export beside each function, with its parameters one by one.
 #![tactic(auto)]
 
 ghost use Rattle.std.specs.Prelude.{◌≡◌, [], ◌∷◌, length};

@@ -8,13 +8,11 @@ ghost use Rattle.std.specs.Float.Ieee.{to_bits, of_bits};
 ghost use Rattle.chance.specs.Probability.{good_word, good_probability, is_one, threshold_of};
 ghost use Rattle.chance.specs.Draw.{gen_bool, gen_bool_in_send};
 
-// What a draw answers, with the place of the next word: a draw that used one stands one further.
-#[derive(Clone, Copy)]
-pub enum Draw {
-    Yes(usize),
-    No(usize),
-    // There is no word at the place.
-    Short,
+// What a draw answers, and the place of the next word: a draw that used one stands one further.
+#[derive(Clone, Copy, Debug, PartialEq, Eq)]
+pub struct Draw {
+    pub yes: bool,
+    pub next: usize,
 }
 
 // 0 <= p <= 1, and no NaN.
@@ -68,30 +66,34 @@ fn threshold(p: f64) -> u64
     0
 }
 
-// A draw on p with the word at a place of the list: 1 answers yes without one.
-pub fn gen_bool(p: f64, draws: &[u64], place: usize) -> Draw
+// A draw on p with the word at a place of the list: 1 answers yes without one. None: there is no word at the place.
+pub fn gen_bool(p: f64, draws: &[u64], place: usize) -> Option<Draw>
     requires { T (good_probability p) }
     ensures { result ≡ gen_bool p draws.now place }
 {
     if p == 1.0 {
-        return Draw::Yes(place);
+        return Some(Draw {
+            yes: true,
+            next: place,
+        });
     }
-    if place >= draws.len() {
-        return Draw::Short;
-    }
-    if draws[place] < threshold(p) {
-        return Draw::Yes(place + 1);
-    }
-    Draw::No(place + 1)
+    let word = *draws.get(place)?;
+    Some(Draw {
+        yes: word < threshold(p),
+        next: place + 1,
+    })
 }
 
 // The same where a message is sent: there 0, of either sign, answers no without a word.
-pub fn gen_bool_in_send(p: f64, draws: &[u64], place: usize) -> Draw
+pub fn gen_bool_in_send(p: f64, draws: &[u64], place: usize) -> Option<Draw>
     requires { T (good_probability p) }
     ensures { result ≡ gen_bool_in_send p draws.now place }
 {
     if p == 0.0 {
-        return Draw::No(place);
+        return Some(Draw {
+            yes: false,
+            next: place,
+        });
     }
     gen_bool(p, draws, place)
 }

@@ -5,14 +5,12 @@
 ghost use Rattle.std.specs.Prelude.{◌≡◌, ◌+◌, length};
 ghost use Rattle.script.specs.Scripts.{longest};
 
-use input::Input;
-use script_report::Reported;
 use std::io::{self, Write};
 
 // The longest script and one byte more, so that a longer one is seen to be.
 const TEXT: usize = script::LONGEST + 1;
 
-// Room for the text. The contract gives its length alone, which is all that lending it asks.
+// Room for the text, by a function: a caller knows its length from its type, and not that it is zeros.
 fn room() -> [u8; TEXT]
     ensures { longest + 1 ≡ length result }
 {
@@ -22,11 +20,11 @@ fn room() -> [u8; TEXT]
 fn main(rt: HostRuntime) -> io::Result<()> {
     let mut text = room();
     let length = match input::read_all(&mut rt.stdin(), &mut text) {
-        Input::Bytes(length) => length,
-        Input::Unreadable(error) => return eprintln!(rt; "faults: standard input: {error}"),
+        Ok(length) => length,
+        Err(error) => return eprintln!(rt; "faults: standard input: {error}"),
     };
     let mut out = script_report::room();
-    let Reported::Written(written) = script_report::report(&text[..length], &mut out) else {
+    let Some(written) = script_report::report(&text[..length], &mut out) else {
         return Ok(());
     };
     if let Err(error) = rt.stdout().write_all(&out[..written]) {

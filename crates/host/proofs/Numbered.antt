@@ -1,6 +1,5 @@
 -- The numbers are those of the rules. Assumes nothing.
 use mathlib.Core.Path.{refl}
-use Rattle.plants.specs.Refusals.{plants_refusal}
 use Rattle.properties_verdicts.specs.Verdicts.{property_number, properties_refusal}
 use Rattle.host.specs.Numbers.{NetworkNumbered, PlantsNumbered, PropertiesNumbered}
 

@@ -8,11 +8,11 @@ use native.Mathlib.Omega.{arith}
 use borrow.Author.Tests.{eqb-false}
 use lib.Dec.{eqb}
 use lib.Ieee.{binary64, of_bits}
+use Rattle.std.specs.Prelude.{Option, Some, None}
 use Rattle.chance.specs.Draw.{gen_bool_in_send}
 use Rattle.chance.specs.declared.Draw.{Draw}
-use Rattle.chance.specs.declared.Draw.TheVariants.{Yes, No, Short}
 use Rattle.nights.specs.Net.{Options, Plain, Fate, refuse, lose, once, twice, Change, send, collect, choose}
-use Rattle.nights.specs.Draws.{Decided, is_faulted, after_replay, after_loss, decided, fate_of}
+use Rattle.nights.specs.Draws.{Decided, is_faulted, alone, both, after_replay, after_loss, decided, fate_of}
 use Rattle.nights.specs.Tests.{Answer, refused, Test, verdict, allowed, refusal, tests}
 use Rattle.network_options.specs.declared.Refusal.{Refusal as NetworkRefusal}
 use Rattle.network_options.specs.Answers.{refusal_number}
@@ -55,23 +55,30 @@ Fated (once d x) = Unit {0}
 Fated (twice c d x y) = Unit {0}
 
 module _ (o : Options) (now : ℕ) (draws extras : List ℕ) where
-  replay_fated : (d : Draw) → Fated (after_replay o now extras d).fate
+  replay_fated : (d : Option Draw) → Fated (after_replay o now extras d).fate
   unfolding after_replay
-  replay_fated (Yes place) = both_by (λ (d : Decided). Fated d.fate) o now extras place (omega arith, omega arith) (omega arith, omega arith) tt
-  replay_fated (No place) = alone_by (λ (d : Decided). Fated d.fate) o now extras place (omega arith, omega arith) (omega arith, omega arith) tt
-  replay_fated Short = (omega arith, omega arith)
+  replay_fated (Some d) = go d.yes
+    where
+      go : (b : Bool) → Fated (cond b (both o now extras d.next) (alone o now extras d.next)).fate
+      go true = both_by (λ (r : Decided). Fated r.fate) o now extras d.next (omega arith, omega arith) (omega arith, omega arith) tt
+      go false = alone_by (λ (r : Decided). Fated r.fate) o now extras d.next (omega arith, omega arith) (omega arith, omega arith) tt
+  replay_fated None = (omega arith, omega arith)
 
-  loss_fated : (d : Draw) → Fated (after_loss o now draws extras d).fate
+  loss_fated : (d : Option Draw) → Fated (after_loss o now draws extras d).fate
   unfolding after_loss
-  loss_fated (Yes place) = tt
-  loss_fated (No place) = replay_fated (gen_bool_in_send (of_bits binary64 o.replay) draws place)
-  loss_fated Short = (omega arith, omega arith)
+  loss_fated (Some d) = go d.yes
+    where
+      go : (b : Bool)
+          → Fated (cond b (record { fate = lose; draws = d.next; extras = 0 }) (after_replay o now extras (gen_bool_in_send (of_bits binary64 o.replay) draws d.next))).fate
+      go true = tt
+      go false = replay_fated (gen_bool_in_send (of_bits binary64 o.replay) draws d.next)
+  loss_fated None = (omega arith, omega arith)
 
   fated : (kind : ℕ) → Fated (fate_of o now kind draws extras)
   unfolding decided
   fated kind = go (is_faulted o kind)
     where
-      d : Draw
+      d : Option Draw
       d = gen_bool_in_send (of_bits binary64 o.loss) draws 0
 
       go : (b : Bool) → Fated (cond b (after_loss o now draws extras d) (record { fate = once now false; draws = 0; extras = 0 })).fate

@@ -12,14 +12,12 @@ use Rattle.script.specs.declared.fault.Fault.{Fault}
 use Rattle.script.specs.declared.fault.Fault.TheVariants.{Crash, Restart, Reboot, Partition, Heal, HealAll}
 use Rattle.basis.specs.Basis.{most, plant_count}
 use Rattle.basis.proofs.Laws.{between}
-use Rattle.plants.specs.State.{fresh_plants, blank, new_plants, tested}
+use Rattle.std.specs.Prelude.{None, Result, Ok, Err}
+use Rattle.plants.specs.State.{Next, fresh_plants, blank, new_plants, tested}
 use Rattle.plants.specs.Faults.{turned, parted, after_fault, fault_tested, applied_if, applied}
 use Rattle.plants.specs.declared.Plants.{Plants}
-use Rattle.plants.specs.declared.Next.{Next}
-use Rattle.plants.specs.declared.Outcome.TheVariants.{Done, Refused}
+use Rattle.plants.specs.declared.refusal.Refusal.{Refusal}
 use Rattle.plants.specs.declared.refusal.Refusal.TheVariants.{PlantCount}
-use Rattle.plants.specs.declared.refusal.Test.{Test}
-use Rattle.plants.specs.declared.refusal.Test.TheVariants.{Passed, Failed}
 use Rattle.plants.proofs.Testing.{count_holds}
 use Rattle.plants.proofs.Laws.{keeps_form, fresh_passes}
 use Rattle.plants_lineup.specs.Core.{core_of}
@@ -62,7 +60,7 @@ plants_back_read w l e =
 
 -- ---- words in shape
 
-state_in_shape : (s : Plants) → Sized s → tested s ≡ Passed → InShape (state_words s) s
+state_in_shape : (s : Plants) → Sized s → tested s ≡ Ok tt → InShape (state_words s) s
 state_in_shape s z e =
     record {
       words = words_length s z.up z.partitioned z.stable;
@@ -72,14 +70,14 @@ state_in_shape s z e =
     }
 
 -- fresh plants
-new_counted : (n : ℕ) → new_answer n ≡ 0 → (plant_count n ≡ true) × ((new_plants n).plants ≡ fresh_plants n)
+new_counted : (n : ℕ) → new_answer n ≡ 0 → (plant_count n ≡ true) × ((new_plants n).state ≡ fresh_plants n)
 unfolding new_plants
 new_counted n e = go (plant_count n) refl e
   where
     to : Bool → Next
-    to b = cond b (record { plants = fresh_plants n; outcome = Done }) (record { plants = blank; outcome = Refused PlantCount })
+    to b = cond b (record { state = fresh_plants n; answer = Ok None }) (record { state = blank; answer = Err PlantCount })
 
-    go : (b : Bool) → plant_count n ≡ b → outcome_number (to b).outcome ≡ 0 → (plant_count n ≡ true) × ((to b).plants ≡ fresh_plants n)
+    go : (b : Bool) → plant_count n ≡ b → outcome_number (to b).answer ≡ 0 → (plant_count n ≡ true) × ((to b).state ≡ fresh_plants n)
     go true p q = (p, refl)
     go false p q = absurd (nonzero PlantCount q)
 
@@ -92,7 +90,7 @@ new_in_shape n w e =
       partitioned = length-replicate most false;
       stable = length-replicate {A = ℕ} most 0;
     } in
-    subst (λ (v : List ℕ). InShape v (fresh_plants n)) (ap state_words (sym c.1) ∙ changed (new_answer n) (state_words (new_plants n).plants) w e)
+    subst (λ (v : List ℕ). InShape v (fresh_plants n)) (ap state_words (sym c.1) ∙ changed (new_answer n) (state_words (new_plants n).state) w e)
     (state_in_shape (fresh_plants n) z (fresh_passes n k.0 k.1))
 
 -- a fault
@@ -126,21 +124,21 @@ fault_sized s tick (Heal i) z = parted_sized s _ (length-set s.partitioned i fal
 fault_sized s tick HealAll z = parted_sized s _ (length-replicate most false) z
 
 module _ (w : List ℕ) (tick fault id : ℕ) (draws : List ℕ) where
-  abbrev passing : Test
+  abbrev passing : Result Unit Refusal
   passing = fault_tested (plants_in w) tick (fault_in fault id) draws
 
   abbrev faulted : Plants
   faulted = after_fault (plants_in w) tick (fault_in fault id)
 
-  fault_passed : apply_answer w tick fault id draws ≡ 0 → passing ≡ Passed
+  fault_passed : apply_answer w tick fault id draws ≡ 0 → passing ≡ Ok tt
   unfolding apply_answer applied
   fault_passed e = known (leb fault 5) e
     where
-      by : (t : Test) → passing ≡ t → outcome_number (applied_if t (plants_in w) tick (fault_in fault id) draws).outcome ≡ 0 → passing ≡ Passed
-      by Passed p q = p
-      by (Failed r) p q = absurd (nonzero r q)
+      by : (t : Result Unit Refusal) → passing ≡ t → outcome_number (applied_if t (plants_in w) tick (fault_in fault id) draws).answer ≡ 0 → passing ≡ Ok tt
+      by (Ok x) p q = p
+      by (Err r) p q = absurd (nonzero r q)
 
-      known : (b : Bool) → cond b (or_else (shaped w) (outcome_number (next_of w tick fault id draws).outcome)) 5 ≡ 0 → passing ≡ Passed
+      known : (b : Bool) → cond b (or_else (shaped w) (outcome_number (next_of w tick fault id draws).answer)) 5 ≡ 0 → passing ≡ Ok tt
       known true q = by passing refl (or_zero (shaped w) _ q).1
       known false q = absurd (omega arith)
 
@@ -148,7 +146,7 @@ module _ (w : List ℕ) (tick fault id : ℕ) (draws : List ℕ) where
   unfolding applied
   apply_in_shape l e =
       let p = fault_passed e in
-      let s : (next_of w tick fault id draws).plants ≡ faulted = rw p in
+      let s : (next_of w tick fault id draws).state ≡ faulted = rw p in
       subst (λ (v : List ℕ). InShape v faulted) (ap state_words (sym s) ∙ changed (apply_answer w tick fault id draws) _ w e)
       (state_in_shape faulted (fault_sized (plants_in w) tick (fault_in fault id) (words_sized w l))
       (keeps_form (plants_in w) tick (fault_in fault id) draws p))
@@ -161,14 +159,14 @@ module _ (w recovering picks : List ℕ) (full : ℕ) where
   abbrev after : Plants
   after = settled (plants_in w) (core_of (plants_in w).n recovering picks whole)
 
-  core_passed : core_answer w recovering picks full ≡ 0 → choice_tested (plants_in w) recovering picks whole ≡ Passed
+  core_passed : core_answer w recovering picks full ≡ 0 → choice_tested (plants_in w) recovering picks whole ≡ Ok tt
   unfolding core_answer chosen
   core_passed e = by (choice_tested (plants_in w) recovering picks whole) refl (or_zero (shaped w) _ e).1
     where
-      by : (t : Test) → choice_tested (plants_in w) recovering picks whole ≡ t → choice_number (chosen_if t (plants_in w) recovering picks whole).choice ≡ 0
-          → choice_tested (plants_in w) recovering picks whole ≡ Passed
-      by Passed p q = p
-      by (Failed r) p q = absurd (nonzero r q)
+      by : (t : Result Unit Refusal) → choice_tested (plants_in w) recovering picks whole ≡ t → choice_number (chosen_if t (plants_in w) recovering picks whole).answer ≡ 0
+          → choice_tested (plants_in w) recovering picks whole ≡ Ok tt
+      by (Ok x) p q = p
+      by (Err r) p q = absurd (nonzero r q)
 
   pub core_in_shape : length w ≡ state_size → core_answer w recovering picks full ≡ 0 → InShape (core_words w recovering picks full) after
   unfolding chosen
@@ -179,6 +177,6 @@ module _ (w recovering picks : List ℕ) (full : ℕ) where
         partitioned = length-replicate most false;
         stable = (words_sized w l).stable;
       } in
-      let s : (chosen_of w recovering picks full).plants ≡ after = rw p in
+      let s : (chosen_of w recovering picks full).state ≡ after = rw p in
       subst (λ (v : List ℕ). InShape v after) (ap state_words (sym s) ∙ changed (core_answer w recovering picks full) _ w e)
       (state_in_shape after z (ap tested (sym s) ∙ core-keeps-form (plants_in w) recovering picks whole p))

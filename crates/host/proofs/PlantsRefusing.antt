@@ -1,5 +1,5 @@
 -- A refused call of the plants leaves every word, and no call on words in shape answers 40 or 42. Assumes nothing.
-use Prim.Native.Nat.{ℕ, ◌-◌}
+use Prim.Native.Nat.{ℕ}
 use mathlib.Core.Path.{◌≡◌, refl, sym, ap, ◌∙◌, subst}
 use mathlib.Core.Bool.{Bool, true, false, cond, not, ◌&&◌}
 use mathlib.Core.List.{List, [], ◌∷◌}
@@ -9,14 +9,14 @@ use lib.ListN.{length}
 use Rattle.script.specs.declared.fault.Fault.{Fault}
 use Rattle.script.specs.declared.fault.Fault.TheVariants.{Crash, Restart, Reboot, Partition, Heal, HealAll}
 use Rattle.basis.specs.Basis.{quorum}
+use Rattle.std.specs.Prelude.{Result, Ok, Err}
 use Rattle.plants.specs.Refusals.{plants_refusal, must, ◌then◌}
 use Rattle.plants.specs.State.{counts_fit, tested}
 use Rattle.plants.specs.Faults.{after_fault, knows, answered, has_nonce, fault_tested, applied_if, applied}
 use Rattle.plants.specs.Verdicts.{sender_known, verdict_tested, judged_if, verdict_given}
 use Rattle.plants.specs.declared.Plants.{Plants}
+use Rattle.plants.specs.declared.refusal.Refusal.{Refusal}
 use Rattle.plants.specs.declared.refusal.Refusal.TheVariants.{UnknownPlant, CountFull, NoNonce, BadFlags, TooFewPicks, PickOutOfRange, TooFewHealthy}
-use Rattle.plants.specs.declared.refusal.Test.{Test}
-use Rattle.plants.specs.declared.refusal.Test.TheVariants.{Passed, Failed}
 use Rattle.plants_lineup.specs.Core.{picks_used, picks_in_range, recovering_fit, healthy_count, core_of}
 use Rattle.plants_liveness.specs.Choice.{settled, lent_tested, choice_tested, chosen_if, chosen}
 use Rattle.plants_layout.specs.Layout.{plants_in, shaped, fault_in, origin_in}
@@ -52,9 +52,9 @@ past : (k : ℕ) → eqb k 40 ≡ false → eqb k 42 ≡ false → PastState k
 past k a b = record { counted = eqb-false k 40 a; formed = eqb-false k 42 b }
 
 -- tests in an order, of which none has them
-abbrev Fails : Test → Type 0
-Fails Passed = Unit {0}
-Fails (Failed r) = PastState (plants_refusal r)
+abbrev Fails : Result Unit Refusal → Type 0
+Fails (Ok x) = Unit {0}
+Fails (Err r) = PastState (plants_refusal r)
 
 fault_tests : (a b c : Bool) → Fails (must a UnknownPlant then must b CountFull then must c NoNonce)
 fault_tests true true true = tt
@@ -90,7 +90,7 @@ answered_past (Heal i) draws = past 0 refl refl
 answered_past HealAll draws = past 0 refl refl
 
 module _ (w : List ℕ) (s : Plants) (f : InShape w s) where
-  passed_now : tested (plants_in w) ≡ Passed
+  passed_now : tested (plants_in w) ≡ Ok tt
   passed_now = ap tested f.state ∙ f.passed
 
   behind : (k : ℕ) → PastState k → PastState (or_else (shaped w) k)
@@ -110,9 +110,9 @@ module _ (w : List ℕ) (s : Plants) (f : InShape w s) where
         (behind _ (by (fault_tested (plants_in w) tick (fault_in fault id) draws) apply_fails))
         (past 5 refl refl)
       where
-        by : (t : Test) → Fails t → PastState (outcome_number (applied_if t (plants_in w) tick (fault_in fault id) draws).outcome)
-        by Passed h = answered_past (fault_in fault id) draws
-        by (Failed r) h = h
+        by : (t : Result Unit Refusal) → Fails t → PastState (outcome_number (applied_if t (plants_in w) tick (fault_in fault id) draws).answer)
+        by (Ok x) h = answered_past (fault_in fault id) draws
+        by (Err r) h = h
 
   module _ (sort id to : ℕ) where
     verdict_fails : Fails (verdict_tested (plants_in w) (origin_in sort id) to)
@@ -126,9 +126,9 @@ module _ (w : List ℕ) (s : Plants) (f : InShape w s) where
         (behind _ (by (verdict_tested (plants_in w) (origin_in sort id) to) verdict_fails))
         (past 24 refl refl)
       where
-        by : (t : Test) → Fails t → PastState (judged_number (judged_if t (plants_in w) (origin_in sort id) to))
-        by Passed h = past 0 refl refl
-        by (Failed r) h = h
+        by : (t : Result Unit Refusal) → Fails t → PastState (judged_number (judged_if t (plants_in w) (origin_in sort id) to))
+        by (Ok x) h = past 0 refl refl
+        by (Err r) h = h
 
   module _ (recovering picks : List ℕ) (full : ℕ) where
     core_fails : Fails (choice_tested (plants_in w) recovering picks (not (eqb full 0)))
@@ -144,6 +144,6 @@ module _ (w : List ℕ) (s : Plants) (f : InShape w s) where
     unfolding core_answer chosen
     core_past = behind _ (by (choice_tested (plants_in w) recovering picks (not (eqb full 0))) core_fails)
       where
-        by : (t : Test) → Fails t → PastState (choice_number (chosen_if t (plants_in w) recovering picks (not (eqb full 0))).choice)
-        by Passed h = past 0 refl refl
-        by (Failed r) h = h
+        by : (t : Result Unit Refusal) → Fails t → PastState (choice_number (chosen_if t (plants_in w) recovering picks (not (eqb full 0))).answer)
+        by (Ok x) h = past 0 refl refl
+        by (Err r) h = h

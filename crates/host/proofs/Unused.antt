@@ -11,10 +11,10 @@ use lib.Ieee.{Float, binary64, of_bits, to_bits}
 use lib.ListN.{length, take, get_or, length-take}
 use lib.Seq.{get_or-take}
 use Rattle.chance.specs.Probability.{is_one, is_zero, threshold_of}
-use Rattle.chance.specs.Draw.{by_word, gen_bool, gen_bool_in_send}
+use Rattle.std.specs.Prelude.{Option, Some, None}
+use Rattle.chance.specs.Draw.{drawn as found, by_word, gen_bool, gen_bool_in_send}
 use Rattle.chance.specs.declared.Draw.{Draw}
-use Rattle.chance.specs.declared.Draw.TheVariants.{Yes, No, Short}
-use Rattle.nights.specs.Net.{Options, once, Letter, send, send_one, effect}
+use Rattle.nights.specs.Net.{Options, lose, once, Letter, send, send_one, effect}
 use Rattle.nights.specs.Draws.{Decided, is_faulted, extras_for, extra_at, due_at, is_late, alone, both, after_replay, after_loss, decided, fate_of}
 use Rattle.nights.specs.Tests.{done, allowed, verdict, send_tests, tests}
 use Rattle.nights.proofs.Run.{passed_tests}
@@ -46,26 +46,23 @@ shared d l k h e =
 
 -- ---- a draw that finds its word among them
 
-abbrev Within : ℕ → Draw → Type 0
-Within d (Yes place) = place ≤ d
-Within d (No place) = place ≤ d
-Within d Short = ⊥
+abbrev Within : ℕ → Option Draw → Type 0
+Within d (Some r) = r.next ≤ d
+Within d None = ⊥
 
-abbrev Onward : ℕ → Draw → Type 0
-Onward from (Yes place) = from ≤ place
-Onward from (No place) = from ≤ place
-Onward from Short = Unit {0}
+abbrev Onward : ℕ → Option Draw → Type 0
+Onward from (Some r) = from ≤ r.next
+Onward from None = Unit {0}
 
 module _ (p : Float) (draws others : List ℕ) (place : ℕ) where
   onward : Onward place (gen_bool_in_send p draws place)
   unfolding by_word gen_bool gen_bool_in_send
   onward = go (is_zero p) (is_one p) (ltb place (length draws)) (ltb (get_or draws place 0) (threshold_of (to_bits binary64 p)))
     where
-      go : (z o b c : Bool) → Onward place (cond z (No place) (cond o (Yes place) (cond b (cond c (Yes (place + 1)) (No (place + 1))) Short)))
+      go : (z o b c : Bool) → Onward place (cond z (found false place) (cond o (found true place) (cond b (found c (place + 1)) None)))
       go true o b c = omega arith
       go false true b c = omega arith
-      go false false true true = omega arith
-      go false false true false = omega arith
+      go false false true c = omega arith
       go false false false c = tt
 
   module _ (d : ℕ) (s : Shared d draws others) where
@@ -73,24 +70,23 @@ module _ (p : Float) (draws others : List ℕ) (place : ℕ) where
     unfolding by_word
     word_same w = go (ltb place (length draws)) (ltb (get_or draws place 0) (threshold_of (to_bits binary64 p))) refl w
       where
-        to : Bool → Draw
-        to b = cond b (Yes (place + 1)) (No (place + 1))
+        to : Bool → Option Draw
+        to b = found b (place + 1)
 
         here : place < d → by_word p others place ≡ to (ltb (get_or draws place 0) (threshold_of (to_bits binary64 p)))
         here h = rw (lt-ltb place (length others) (omega (arith, s.second)), s.same place h)
 
-        go : (b c : Bool) → ltb (get_or draws place 0) (threshold_of (to_bits binary64 p)) ≡ c → Within d (cond b (to c) Short)
-            → by_word p others place ≡ cond b (to c) Short
-        go true true q h = here (omega arith) ∙ ap to q
-        go true false q h = here (omega arith) ∙ ap to q
+        go : (b c : Bool) → ltb (get_or draws place 0) (threshold_of (to_bits binary64 p)) ≡ c → Within d (cond b (to c) None)
+            → by_word p others place ≡ cond b (to c) None
+        go true c q h = here (omega arith) ∙ ap to q
         go false c q h = absurd h
 
     draw_same : Within d (gen_bool_in_send p draws place) → gen_bool_in_send p others place ≡ gen_bool_in_send p draws place
     unfolding gen_bool gen_bool_in_send
     draw_same w = go (is_zero p) (is_one p) w
       where
-        go : (z o : Bool) → Within d (cond z (No place) (cond o (Yes place) (by_word p draws place)))
-            → cond z (No place) (cond o (Yes place) (by_word p others place)) ≡ cond z (No place) (cond o (Yes place) (by_word p draws place))
+        go : (z o : Bool) → Within d (cond z (found false place) (cond o (found true place) (by_word p draws place)))
+            → cond z (found false place) (cond o (found true place) (by_word p others place)) ≡ cond z (found false place) (cond o (found true place) (by_word p draws place))
         go true o h = refl
         go false true h = refl
         go false false h = word_same h
@@ -147,33 +143,46 @@ module _ (o : Options) (now : ℕ) (extras others : List ℕ) where
 
 module _ (o : Options) (now d x : ℕ) (draws other_draws extras other_extras : List ℕ) (sd : Shared d draws other_draws)
     (sx : Shared x extras other_extras) where
-  replay_same : (r : Draw) → let t = after_replay o now extras r in
+  replay_same : (r : Option Draw) → let t = after_replay o now extras r in
       allowed t.fate ≡ true → t.draws ≤ d → t.extras ≤ x → Within d r × (after_replay o now other_extras r ≡ t)
   unfolding after_replay
-  replay_same (Yes place) e h k =
-      let u = both_uses o now extras other_extras place e in
-      (omega (arith, u.draws), both_same o now extras other_extras x sx place (omega (arith, u.extras)))
-  replay_same (No place) e h k =
-      let u = alone_uses o now extras other_extras place e in
-      (omega (arith, u.draws), alone_same o now extras other_extras x sx place (omega (arith, u.extras)))
-  replay_same Short e h k = let z : ◌≡◌ {A = ℕ} 0 1 = cc in absurd (omega arith)
+  replay_same (Some r) = go r.yes
+    where
+      go : (b : Bool) → let t = cond b (both o now extras r.next) (alone o now extras r.next) in
+          allowed t.fate ≡ true → t.draws ≤ d → t.extras ≤ x
+          → (r.next ≤ d) × (cond b (both o now other_extras r.next) (alone o now other_extras r.next) ≡ t)
+      go true e h k =
+          let u = both_uses o now extras other_extras r.next e in
+          (omega (arith, u.draws), both_same o now extras other_extras x sx r.next (omega (arith, u.extras)))
+      go false e h k =
+          let u = alone_uses o now extras other_extras r.next e in
+          (omega (arith, u.draws), alone_same o now extras other_extras x sx r.next (omega (arith, u.extras)))
+  replay_same None = λ e h k. let z : ◌≡◌ {A = ℕ} 0 1 = cc in absurd (omega arith)
 
-  between : (place : ℕ) (r : Draw) → Onward place r → Within d r → place ≤ d
-  between place (Yes k) a b = omega arith
-  between place (No k) a b = omega arith
-  between place Short a b = absurd b
+  between : (place : ℕ) (r : Option Draw) → Onward place r → Within d r → place ≤ d
+  between place (Some k) a b = omega arith
+  between place None a b = absurd b
 
-  loss_same : (r : Draw) → let t = after_loss o now draws extras r in
+  loss_same : (r : Option Draw) → let t = after_loss o now draws extras r in
       allowed t.fate ≡ true → t.draws ≤ d → t.extras ≤ x → Within d r × (after_loss o now other_draws other_extras r ≡ t)
   unfolding after_loss
-  loss_same (Yes place) e h k = (h, refl)
-  loss_same (No place) e h k =
-      let p : Float = of_bits binary64 o.replay in
-      let r = replay_same (gen_bool_in_send p draws place) e h k in (
-        between place (gen_bool_in_send p draws place) (onward p draws other_draws place) r.0,
-        ap (λ (z : Draw). after_replay o now other_extras z) (draw_same p draws other_draws place d sd r.0) ∙ r.1,
-      )
-  loss_same Short e h k = let z : ◌≡◌ {A = ℕ} 0 1 = cc in absurd (omega arith)
+  loss_same (Some r) = go r.yes
+    where
+      p : Float
+      p = of_bits binary64 o.replay
+
+      to : Bool → (draws extras : List ℕ) → Decided
+      to b l m = cond b (record { fate = lose; draws = r.next; extras = 0 }) (after_replay o now m (gen_bool_in_send (of_bits binary64 o.replay) l r.next))
+
+      go : (b : Bool) → let t = to b draws extras in
+          allowed t.fate ≡ true → t.draws ≤ d → t.extras ≤ x → (r.next ≤ d) × (to b other_draws other_extras ≡ t)
+      go true e h k = (h, refl)
+      go false e h k =
+          let q = replay_same (gen_bool_in_send p draws r.next) e h k in (
+            between r.next (gen_bool_in_send p draws r.next) (onward p draws other_draws r.next) q.0,
+            ap (λ (z : Option Draw). after_replay o now other_extras z) (draw_same p draws other_draws r.next d sd q.0) ∙ q.1,
+          )
+  loss_same None = λ e h k. let z : ◌≡◌ {A = ℕ} 0 1 = cc in absurd (omega arith)
 
   decided_same : (kind : ℕ) → let t = decided o now kind draws extras in
       allowed t.fate ≡ true → t.draws ≤ d → t.extras ≤ x → decided o now kind other_draws other_extras ≡ t
@@ -189,7 +198,7 @@ module _ (o : Options) (now d x : ℕ) (draws other_draws extras other_extras : 
       go true e h k =
           let p : Float = of_bits binary64 o.loss in
           let r = loss_same (gen_bool_in_send p draws 0) e h k in
-          ap (λ (z : Draw). after_loss o now other_draws other_extras z) (draw_same p draws other_draws 0 d sd r.0) ∙ r.1
+          ap (λ (z : Option Draw). after_loss o now other_draws other_extras z) (draw_same p draws other_draws 0 d sd r.0) ∙ r.1
       go false e h k = refl
 
 -- other words behind those that a fate used, where it is no refusal, give the same fate and use as many

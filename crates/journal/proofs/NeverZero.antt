@@ -6,8 +6,8 @@ use mathlib.Core.List.{List, [], ◌∷◌}
 use native.Mathlib.Omega.{arith}
 use lib.Dec.{leb}
 use lib.ListN.{length}
+use Rattle.std.specs.Prelude.{Option, Some, None}
 use Rattle.chance.specs.declared.Draw.{Draw}
-use Rattle.chance.specs.declared.Draw.TheVariants.{Yes, No, Short}
 use Rattle.nights.specs.Net.{Options, Plain, Fate, refuse, lose, once, twice, Change, send, collect, choose, fresh, well_formed}
 use Rattle.nights.specs.Draws.{Decided, is_faulted, extras_for, due_at, is_tick, alone, both, after_replay, after_loss, decided, fate_of}
 use Rattle.nights.specs.Tests.{done, refused, Test, verdict, allowed, refusal, tests}
@@ -54,17 +54,15 @@ module _ (o : Options) (now : ℕ) (draws extras : List ℕ) where
       (either (is_tick (due_at o now extras 0) && is_tick (due_at o now extras 1)) _ _ (queues_two _ _ _ _) (refuses 27))
       (refuses 26)
 
-  replay_numbered : (d : Draw) → Numbered (after_replay o now extras d).fate
+  replay_numbered : (d : Option Draw) → Numbered (after_replay o now extras d).fate
   unfolding after_replay
-  replay_numbered (Yes place) = both_numbered place
-  replay_numbered (No place) = alone_numbered place
-  replay_numbered Short = refuses 25
+  replay_numbered (Some d) = either d.yes _ _ (both_numbered d.next) (alone_numbered d.next)
+  replay_numbered None = refuses 25
 
-  loss_numbered : (d : Draw) → Numbered (after_loss o now draws extras d).fate
+  loss_numbered : (d : Option Draw) → Numbered (after_loss o now draws extras d).fate
   unfolding after_loss
-  loss_numbered (Yes place) = loses
-  loss_numbered (No place) = replay_numbered _
-  loss_numbered Short = refuses 25
+  loss_numbered (Some d) = either d.yes _ _ loses (replay_numbered _)
+  loss_numbered None = refuses 25
 
   fate_numbered : (kind : ℕ) → Numbered (fate_of o now kind draws extras)
   unfolding decided

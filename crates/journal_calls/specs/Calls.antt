@@ -1,24 +1,36 @@
 -- Each call of the code, on a network of the code and the journal's words, by the step of the plain form (RULES, "Journal"): the very
 -- step whose runs nights' theorem speaks of. A refusal hands back the very struct. Assumes nothing.
-use Rattle.std.specs.Prelude.{ℕ, cond, List}
+use Rattle.std.specs.Prelude.{ℕ, cond, List, Result, Ok, Err}
 use Rattle.nights.specs.Net.{Options, send, collect, choose, fresh}
 use Rattle.nights.specs.Draws.{fate_of}
-use Rattle.nights.specs.Tests.{Answer, refused, if_done}
+use Rattle.nights.specs.Tests.{Answer, done, refused, if_done}
 use Rattle.nights.specs.Journal.{Call, change, mark, State, Step, step}
 use Rattle.network.specs.declared.Network.{Network}
+use Rattle.network_options.specs.declared.Refusal.{Refusal}
 use Rattle.network_options.specs.Options.{perfect_options}
+use Rattle.network_options.specs.Answers.{refusal_number}
 use Rattle.network.specs.Forms.{plain_of, struct_of, is_formed}
+use Rattle.network_send.specs.declared.Letter.{Letter}
 use Rattle.network_send.specs.Sends.{letter_of}
 
 -- the calls, from their parameters
 abbrev pub sends : (now sort origin to kind handle : ℕ) (draws extras : List ℕ) → Call
 sends n s o t k h draws extras = change (send (letter_of n s o t k h) draws extras)
 
+-- the same of the code's own struct of a letter
+abbrev pub sends_letter : Letter → (draws extras : List ℕ) → Call
+sends_letter m draws extras = sends m.now m.sort m.origin m.to m.kind m.handle draws extras
+
 abbrev pub takes : (now room : ℕ) → Call
 takes now room = change (collect now room)
 
 abbrev pub chooses : Options → Call
 chooses o = change (choose o)
+
+-- the answer that a result of the code is, whatever it gives beside it
+abbrev pub answer_from : {A : Type 0} → Result A Refusal → Answer
+answer_from (Ok given) = done
+answer_from (Err r) = refused (refusal_number r)
 
 -- what the code holds, in the plain form
 abbrev pub state_of : Network → List ℕ → State

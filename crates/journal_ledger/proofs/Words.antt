@@ -1,22 +1,27 @@
 -- The journal's words: when their header is good, when a record has room, and what a record written behind the others leaves.
 -- Assumes nothing.
 use Prim.Native.Nat.{ℕ, ◌+◌, ◌-◌, ◌*◌, ◌/◌, ◌≤◌, ◌<◌}
-use mathlib.Core.Path.{◌≡◌, refl, sym, ◌∙◌}
-use mathlib.Core.List.{List, [], ◌∷◌, ◌++◌, append_assoc}
+use mathlib.Core.Path.{◌≡◌, refl, ◌∙◌}
+use mathlib.Core.List.{List, [], ◌∷◌, ◌++◌}
 use mathlib.Core.Bool.{Bool, true, false}
 use native.Mathlib.Omega.{arith}
 use borrow.Author.Tests.{le-leb, lt-leb, leb-true, leb-false}
-use lib.Dec.{leb}
+use lib.Dec.{T, leb}
 use lib.ListN.{length, take, drop, get_or, set, length-append, length-take, length-drop, get_or-append}
-use lib.Seq.{get_or-take, take-length, paste}
+use lib.Seq.{get_or-take}
+use denote.Floats.{passes}
 use Rattle.basis.specs.Basis.{laid}
 use Rattle.basis.proofs.Laws.{both}
+use Rattle.chance.specs.Probability.{good_probability}
+use Rattle.nights.specs.Net.{good_options}
 use Rattle.nights.specs.Tests.{done, refused, verdict}
 use Rattle.nights.specs.Journal.{held, used, logged, good_header, journal_tests}
-use Rattle.nights.proofs.Failing.{first, second}
+use Rattle.network_options.specs.declared.NetworkOptions.{NetworkOptions}
+use Rattle.network_options.specs.Options.{plain_options}
+use Rattle.network_options.proofs.OptionForms.{good_chances}
 
 -- half of it, rounded down
-halved : (a b : ℕ) → leb a (b / 2) ≡ leb (2 * a) b
+pub halved : (a b : ℕ) → leb a (b / 2) ≡ leb (2 * a) b
 halved a b = go (leb (2 * a) b) refl
   where
     go : (x : Bool) → leb (2 * a) b ≡ x → leb a (b / 2) ≡ x
@@ -32,24 +37,6 @@ pub record Header (w : List ℕ) : Type 0 where
   pub few : 2 * held w ≤ used w - 2
 
 module _ (w : List ℕ) where
-  pub too_short : length w < 2 → false ≡ good_header w
-  unfolding good_header
-  too_short h = sym (first (leb 2 (length w)) _ (lt-leb 2 (length w) h))
-
-  pub used_low : used w < 2 → false ≡ good_header w
-  unfolding good_header
-  used_low h = sym (second (leb 2 (length w)) _ (first (leb 2 (used w)) _ (lt-leb 2 (used w) h)))
-
-  pub used_high : length w < used w → false ≡ good_header w
-  unfolding good_header
-  used_high h =
-      sym (second (leb 2 (length w)) _ (second (leb 2 (used w)) _ (first (leb (used w) (length w)) _ (lt-leb (used w) (length w) h))))
-
-  pub held_told : 2 ≤ length w → 2 ≤ used w → used w ≤ length w → leb (held w) ((used w - 2) / 2) ≡ good_header w
-  unfolding good_header
-  held_told a b c =
-      halved (held w) (used w - 2) ∙ rw (le-leb 2 (length w) a, le-leb 2 (used w) b, le-leb (used w) (length w) c)
-
   module _ (g : good_header w ≡ true) where
     pub good_header_lem : Header w
     unfolding good_header
@@ -99,10 +86,6 @@ headed [] a b h = absurd (omega arith)
 headed (x ∷ []) a b h = absurd (omega arith)
 headed (x ∷ y ∷ w) a b h = refl
 
--- a list written over the words, once all of it is
-pub pasted : (w r : List ℕ) (at : ℕ) → paste w at r (length r) ≡ laid w at r
-pasted w r at = rw (take-length r, append_assoc (take at w) r (drop (at + length r) w))
-
 -- a record written behind the others leaves word 0, and as many words as there were
 module _ (w r : List ℕ) (g : good_header w ≡ true) (room : used w + length r ≤ length w) where
   pub held_stays : get_or (laid w (used w) r) 0 0 ≡ held w
@@ -126,3 +109,12 @@ module _ (w r : List ℕ) (g : good_header w ≡ true) (room : used w + length r
   logged_by v e =
       let h : Header w = good_header_lem w g in
       rw (e, held_stays) (headed (laid w (used w) r) (held w + 1) (used w + length r) (omega (arith, length_over, h.long)))
+
+-- ---- good options
+
+module _ (o : NetworkOptions) (g : good_options (plain_options o) ≡ true) where
+  pub good_loss : T (good_probability o.packet_loss_probability)
+  good_loss = passes _ (good_chances o g).0
+
+  pub good_replay : T (good_probability o.packet_replay_probability)
+  good_replay = passes _ (good_chances o g).1

@@ -1,2 +1,3 @@
--- The definition that the crate's contracts cite.
+-- The definitions that the crate's contracts cite.
 pub mod Records
+pub mod Sorts

@@ -7,17 +7,19 @@ ghost use Rattle.std.specs.Prelude.{◌≡◌};
 ghost use Rattle.network_options.specs.Answers.{settled_of};
 ghost use Rattle.journal_calls.specs.Calls.{mark_answer, mark_words};
 
-use network_options::{Refusal, Settled};
+use journal_ledger::HEADER;
+use network_options::Refusal;
 
 // Forgets the calls held, so that none of them can be undone.
-pub fn mark(journal: &mut [u64]) -> Settled
+#[tactic(auto, using(journal_ledger::proofs::Words::headed, crate::proofs::Marks::mark_short, crate::proofs::Marks::mark_long))]
+pub fn mark(journal: &mut [u64]) -> Result<(), Refusal>
     ensures answer { settled_of result ≡ mark_answer journal.old }
     ensures journal { journal.new ≡ mark_words journal.old }
 {
-    if journal.len() < journal_ledger::HEADER {
-        return Settled::Refused(Refusal::NoJournalRoom);
+    if journal.len() < HEADER {
+        return Err(Refusal::NoJournalRoom);
     }
     journal[0] = 0;
-    journal[1] = journal_ledger::HEADER as u64;
-    Settled::Done
+    journal[1] = HEADER as u64;
+    Ok(())
 }

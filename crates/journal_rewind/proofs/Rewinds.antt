@@ -6,8 +6,9 @@ use mathlib.Core.Bool.{true, false}
 use native.Mathlib.Omega.{arith}
 use borrow.Author.Tests.{le-leb, lt-leb}
 use lib.ListN.{length, drop}
+use Rattle.std.specs.Prelude.{Option, Some, None}
 use Rattle.nights.specs.Tests.{Answer, done, refused, if_done}
-use Rattle.nights.specs.Journal.{Call, rewind, held, used, header, good_header, undo_all, rewound, do_rewind, step}
+use Rattle.nights.specs.Journal.{Call, rewind, held, used, header, good_header, misfit, undone, undo_all, rewound, do_rewind, step}
 use Rattle.network.specs.declared.Network.{Network}
 use Rattle.network_form.specs.Forms.{plain_in, formed_in}
 use Rattle.network.specs.Forms.{network_of, plain_of, is_formed}
@@ -44,19 +45,22 @@ module _ (k : ℕ) (s : Network) (w : List ℕ) where
       too_far h = refused_by (rewind k) s w 33 (rw (f, plain_formed s f, g, lt-leb k (held w) h))
 
       -- the undoing of the last k
-      module _ (h : k ≤ held w) (u : Undone) (z : List ℕ) (e : undone_in u z ≡ undo_all k (plain_of s) w (used w)) where
-        pub no_fit : u.fits ≡ false → Met (rewind k) s w s (refused 31) w
+      module _ (h : k ≤ held w) (o : Option Undone) (z : List ℕ) (e : undone_in o z ≡ undo_all k (plain_of s) w (used w)) where
+        pub no_fit : o ≡ None → Met (rewind k) s w s (refused 31) w
         unfolding step_of step do_rewind rewound undone_in
-        no_fit b = refused_by (rewind k) s w 31 (rw (f, plain_formed s f, g, le-leb k (held w) h, ← e, b))
+        no_fit b =
+            let m : misfit ≡ undo_all k (plain_of s) w (used w) = rw b at e in
+            refused_by (rewind k) s w 31 (rw (f, plain_formed s f, g, le-leb k (held w) h, ← m))
 
-        pub went_back : u.fits ≡ true → formed_in u.head z ≡ true → Held u.head.options → length z ≡ array_size
+        pub went_back : (u : Undone) → o ≡ Some u → formed_in u.head z ≡ true → Held u.head.options → length z ≡ array_size
             → Met (rewind k) s w (network_of u.head z) done ((held w - k) ∷ u.start ∷ drop 2 w)
         unfolding step_of step do_rewind rewound undone_in if_done
-        went_back b o a l =
-            rw (sym (struct_of_plain (network_of u.head z) o a l))
+        went_back u b a q l =
+            let m : undone (plain_in u.head z) u.start ≡ undo_all k (plain_of s) w (used w) = rw b at e in
+            rw (sym (struct_of_plain (network_of u.head z) a q l))
             (met_by (rewind k) s w
             (record {
               state = record { net = plain_in u.head z; words = header (held w - k) u.start w };
               answer = done;
             })
-            (rw (f, plain_formed s f, g, le-leb k (held w) h, ← e, b)))
+            (rw (f, plain_formed s f, g, le-leb k (held w) h, ← m)))

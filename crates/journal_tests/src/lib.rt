@@ -3,26 +3,12 @@
 // they are all of it.
 #![tactic(auto)]
 
-ghost use Rattle.std.specs.Prelude.{◌≡◌, false};
-
 use network_form::Head;
 
-// What undoing gives: the head of the network from before, whose words it left, and where in the journal the undone records start. Where
-// one does not fit, neither says anything, and the words are whatever the undoing left.
+// What undoing gives where each record fits: the head of the network from before, whose words it left, and where in the journal the
+// undone records start. Where one does not fit there is none, and the words are whatever the undoing left.
 #[derive(Clone, Copy)]
 pub struct Undone {
-    pub fits: bool,
     pub head: Head,
     pub start: usize,
-}
-
-// A record that does not fit.
-pub fn misfit(head: Head) -> Undone
-    ensures { result.fits ≡ false }
-{
-    Undone {
-        fits: false,
-        head: head,
-        start: 0,
-    }
 }

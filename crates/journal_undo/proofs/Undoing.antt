@@ -1,5 +1,5 @@
 -- The undoing of record after record: where a record that fits starts, and the walk of `undo_all`. Assumes nothing.
-use Prim.Native.Nat.{ℕ, suc, ◌+◌, ◌-◌, ◌*◌, ◌/◌, ◌≤◌, ◌<◌}
+use Prim.Native.Nat.{ℕ, suc, ◌+◌, ◌-◌, ◌*◌, ◌/◌, ◌≤◌}
 use mathlib.Core.Path.{◌≡◌, refl, sym, ap, ◌∙◌}
 use mathlib.Core.List.{List}
 use mathlib.Core.Bool.{Bool, true, false, cond, ◌&&◌}
@@ -7,14 +7,13 @@ use native.Mathlib.Omega.{arith}
 use borrow.Author.Tests.{leb-true, leb-false}
 use lib.Dec.{leb, eqb}
 use lib.ListN.{length, get_or}
+use Rattle.std.specs.Prelude.{Option, Some, None}
 use Rattle.nights.specs.Record.{recs}
 use Rattle.nights.specs.Net.{capacity, Plain, well_formed}
 use Rattle.nights.specs.Journal.{Undone as Told, misfit, undone, unsend, untake, unchoose, undo_as, undo_one, checked, further, undo_all}
-use Rattle.network_queue.specs.Packed.{array_size}
 use Rattle.network_form.specs.Forms.{plain_in, formed_in}
 use Rattle.journal_tests.specs.declared.Undone.{Undone}
 use Rattle.journal_tests.specs.Undone.{undone_in}
-use Rattle.journal_tests.proofs.Telling.{Undoes}
 use Rattle.journal_undo.proofs.Telling.{no_room}
 
 -- ---- where a record starts
@@ -74,46 +73,43 @@ all_on k n w e m c h = rw h
 
 -- after some records the others are still to be undone
 pub record Undoing (k : ℕ) (j : List ℕ) (e : ℕ) (came : Undone) (v : List ℕ) (me : Undone) (w : List ℕ) (left : ℕ) : Type 0 where
-  pub fits : me.fits ≡ true
   pub formed : formed_in me.head w ≡ true
-  pub long : length w ≡ array_size
   pub low : 2 ≤ me.start
   pub high : me.start ≤ length j
   pub rest : undo_all k (plain_in came.head v) j e ≡ undo_all left (plain_in me.head w) j me.start
 
 module _ (k : ℕ) (j : List ℕ) (e : ℕ) (came : Undone) (v : List ℕ) (me : Undone) (w : List ℕ) (left : ℕ)
     (inv : Undoing k j e came v me w left) where
-  module _ (h : 0 < left) (u : Undone) (z : List ℕ) (t : Undoes u z (checked (undo_one (plain_in me.head w) j me.start))) where
-    one_less : left ≡ suc (left - 1)
+  module _ (more : ℕ) (one : left ≡ more + 1) (u : Option Undone) (z : List ℕ)
+      (t : undone_in u z ≡ checked (undo_one (plain_in me.head w) j me.start)) where
+    one_less : left ≡ suc more
     one_less = omega arith
 
-    pub stops : u.fits ≡ false → undone_in u z ≡ undo_all k (plain_in came.head v) j e
+    pub stops : u ≡ None → undone_in u z ≡ undo_all k (plain_in came.head v) j e
     unfolding undone_in
-    stops f =
-        let d : undone_in u z ≡ misfit = rw f in
+    stops n =
+        let d : undone_in u z ≡ misfit = rw n in
         d
         ∙ sym
         (inv.rest
         ∙ (ap (λ (i : ℕ). undo_all i (plain_in me.head w) j me.start) one_less
-        ∙ all_stop (left - 1) (plain_in me.head w) j me.start (sym t.0 ∙ d)))
+        ∙ all_stop more (plain_in me.head w) j me.start (sym t ∙ d)))
 
-    pub goes_on : u.fits ≡ true → Undoing k j e came v u z (left - 1)
+    pub goes_on : (x : Undone) → u ≡ Some x → formed_in x.head z ≡ true → Undoing k j e came v x z more
     unfolding undone_in
-    goes_on f =
-        let d : checked (undo_one (plain_in me.head w) j me.start) ≡ undone (plain_in u.head z) u.start = sym t.0 ∙ rw f in
-        let s = starts (plain_in me.head w) j me.start (plain_in u.head z) u.start d in
+    goes_on x n f =
+        let d : checked (undo_one (plain_in me.head w) j me.start) ≡ undone (plain_in x.head z) x.start = sym t ∙ rw n in
+        let s = starts (plain_in me.head w) j me.start (plain_in x.head z) x.start d in
         record {
-          fits = f;
-          formed = t.1.0 f;
-          long = t.1.1;
+          formed = f;
           low = s.0;
           high = omega (arith, s.1, inv.high);
           rest =
               inv.rest
               ∙ (ap (λ (i : ℕ). undo_all i (plain_in me.head w) j me.start) one_less
-              ∙ all_on (left - 1) (plain_in me.head w) j me.start (plain_in u.head z) u.start d);
+              ∙ all_on more (plain_in me.head w) j me.start (plain_in x.head z) x.start d);
         }
 
-  pub ends : left ≤ 0 → undone_in me w ≡ undo_all k (plain_in came.head v) j e
+  pub ends : left ≤ 0 → undone_in (Some me) w ≡ undo_all k (plain_in came.head v) j e
   unfolding undone_in undo_all
-  ends h = let z : left ≡ 0 = omega arith in sym (inv.rest ∙ rw (z, inv.fits))
+  ends h = let z : left ≡ 0 = omega arith in sym (inv.rest ∙ rw z)

@@ -7,6 +7,8 @@ use mathlib.Core.Bool.{Bool, true, false, ◌&&◌}
 use borrow.Author.Tests.{le-leb, lt-leb, eq-eqb, ne_eqb}
 use lib.Dec.{leb, eqb}
 use lib.ListN.{get_or}
+use Rattle.std.specs.Prelude.{IfSome}
+use Rattle.std.specs.Bool.{then_some}
 use Rattle.basis.proofs.Laws.{both}
 use Rattle.chance.specs.Probability.{good_word}
 use Rattle.nights.specs.Net.{Plain, good_options, well_formed}
@@ -17,6 +19,7 @@ use Rattle.network_options.specs.Options.{plain_options}
 use Rattle.network_form.specs.declared.Head.{Head}
 use Rattle.network_form.specs.Forms.{plain_in, formed_in}
 use Rattle.network_form.proofs.Maps.{plain_formed}
+use Rattle.journal_tests.specs.declared.Undone.{Undone}
 use Rattle.journal_tests.specs.Undone.{undone_in}
 use Rattle.journal_tests.proofs.Laws.{options_break}
 
@@ -74,10 +77,13 @@ module _ (h : Head) (w : List ℕ) (f : formed_in h w ≡ true) (j : List ℕ) (
   whole t k = options_break (plain_in h w) (plain_formed h w f) j b ∙ sym (k ∙ ap good_options e)
 
   pub options_leave : (t : Bool) → t ≡ good_options (plain_options o)
-      → undone_in (record { fits = t; head = unchosen; start = b }) w ≡ checked (undone (unchoose j b (plain_in h w)) b)
+      → undone_in (then_some t (record { head = unchosen; start = b })) w ≡ checked (undone (unchoose j b (plain_in h w)) b)
   unfolding undone_in checked
-  options_leave t k = rw (e, whole t k)
+  options_leave true k = rw (e, whole true k)
+  options_leave false k = rw (whole false k)
 
-  pub options_stay : (t : Bool) → t ≡ good_options (plain_options o) → t ≡ true → formed_in unchosen w ≡ true
+  pub options_stay : (t : Bool) → t ≡ good_options (plain_options o)
+      → IfSome {T = Undone} (then_some t (record { head = unchosen; start = b })) (λ u. formed_in u.head w ≡ true)
   unfolding formed_in
-  options_stay t k y = rw (e, whole t k, y) (both (well_formed (plain_in h w)) _ f).1
+  options_stay true k = rw (e, whole true k) (both (well_formed (plain_in h w)) _ f).1
+  options_stay false k = tt

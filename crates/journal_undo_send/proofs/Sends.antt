@@ -8,6 +8,7 @@ use native.Mathlib.Omega.{arith}
 use borrow.Author.Tests.{le-leb, lt-leb, eq-eqb, ne_eqb}
 use lib.Dec.{leb, eqb}
 use lib.ListN.{length, drop, get_or, replicate}
+use Rattle.std.specs.Bool.{then_some}
 use Rattle.nights.specs.Record.{Record, record_words, recs, record_size}
 use Rattle.nights.specs.Net.{capacity, Plain, keep}
 use Rattle.nights.specs.Journal.{misfit, undone, unsend, undo_as, checked}
@@ -34,11 +35,11 @@ module _ (z b : ℕ) (n : Plain) (w : List ℕ) (e : ℕ) where
   none_sent h =
       rw (second (eqb z 6) (leb 8 e && leb 1 n.sent) (second (leb 8 e) (leb 1 n.sent) (lt-leb 1 n.sent (omega arith))))
 
-  pub send_fits : z ≡ 6 → 8 ≤ e → (n.sent ≡ 0 → ⊥)
-      → checked (undone (unsend (get_or w b 0) (get_or w (b + 1) 0) (get_or w (b + 2) 0) (get_or w (b + 3) 0) n) b)
-      ≡ checked (undo_as 1 z b n w e)
+  pub send_fits : z ≡ 6 → 8 ≤ e → (n.sent ≡ 0 → ⊥) → (q l r d : ℕ)
+      → q ≡ get_or w b 0 → l ≡ get_or w (b + 1) 0 → r ≡ get_or w (b + 2) 0 → d ≡ get_or w (b + 3) 0
+      → checked (undone (unsend q l r d n) b) ≡ checked (undo_as 1 z b n w e)
   unfolding undo_as
-  send_fits h k s = rw (eq-eqb z 6 h, le-leb 8 e k, le-leb 1 n.sent (omega arith))
+  send_fits h k s q l r d f g i j = rw (f, g, i, j, eq-eqb z 6 h, le-leb 8 e k, le-leb 1 n.sent (omega arith))
 
 -- ---- what it leaves
 
@@ -69,7 +70,7 @@ module _ (h : Head) (v : List ℕ) (f : formed_in h v ≡ true) (long : length v
 
     -- the counters tell it all
     pub send_leaves : (b : ℕ) (t : Bool) → t ≡ counts_good unsent
-        → Undoes (record { fits = t; head = unsent; start = b }) w (checked (undone (unsend q l r d (plain_in h v)) b))
+        → Undoes (then_some t (record { head = unsent; start = b })) w (checked (undone (unsend q l r d (plain_in h v)) b))
     send_leaves b t k =
         tested unsent w (keep (up_to q) held) left c few (unsend q l r d (plain_in h v)) b t
         (rw (records_are unsent w (keep (up_to q) held) left c few))

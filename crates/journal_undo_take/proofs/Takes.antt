@@ -8,6 +8,7 @@ use native.Mathlib.Omega.{arith}
 use borrow.Author.Tests.{le-leb, lt-leb, eq-eqb, ne_eqb}
 use lib.Dec.{leb, eqb}
 use lib.ListN.{length}
+use Rattle.std.specs.Bool.{then_some}
 use Rattle.nights.specs.Record.{Record, recs}
 use Rattle.nights.specs.Net.{capacity, Plain, insert_all}
 use Rattle.nights.specs.Journal.{misfit, undone, untake, undo_as, checked}
@@ -23,6 +24,9 @@ use Rattle.network_form.specs.Forms.{plain_in, formed_in}
 use Rattle.network_form.proofs.Maps.{plain_formed, words_are}
 use Rattle.journal_tests.proofs.Laws.{take_breaks}
 use Rattle.journal_tests.proofs.Telling.{Undoes, records_are, tested}
+
+pub held_count : (v : List ℕ) (n : ℕ) → length (recs v 0 n) ≡ n
+held_count v n = length-recs v 0 n
 
 -- ---- the tests of the record
 
@@ -106,7 +110,7 @@ module _ (h : Head) (v : List ℕ) (f : formed_in h v ≡ true) (long : length v
 
     -- the records tell it all
     pub take_leaves : (b : ℕ) (p : Bool) → p ≡ records_rise w (h.pending + t) h.seq
-        → Undoes (record { fits = p; head = untaken; start = b }) w (checked (undone (untake rs (plain_in h v)) b))
+        → Undoes (then_some p (record { head = untaken; start = b })) w (checked (undone (untake rs (plain_in h v)) b))
     take_leaves b p k =
         tested untaken w (insert_all rs held) back count fewer (untake rs (plain_in h v)) b p
         (rw (records_back, c))

@@ -6,20 +6,19 @@
 ghost use Rattle.std.specs.Prelude.{◌≡◌, true, [], length};
 ghost use Rattle.nights.specs.Net.{capacity, sent_limit, good_options, fresh, send, collect, choose};
 ghost use Rattle.nights.specs.Tests.{verdict, option_tests};
-ghost use Rattle.network_queue.specs.Packed.{array_size};
 ghost use Rattle.network_options.specs.Options.{plain_options};
 ghost use Rattle.network_options.specs.Answers.{settled_of};
-ghost use Rattle.network_form.specs.Calls.{answer_in, head_after, records_after};
-ghost use Rattle.network_send.specs.Sends.{letter_of, sent_of, send_tells};
+ghost use Rattle.network_form.specs.Calls.{answer_in, records_after};
+ghost use Rattle.network_send.specs.Sends.{plain_letter, sent_of, send_tells};
 ghost use Rattle.network_take.specs.Takes.{counted_of, take_tells, take_gives, count_tells, list_tells, list_gives};
 ghost use Rattle.network.specs.Forms.{struct_of};
 ghost use Rattle.network.specs.Calls.{first_network, call_answer, call_network};
 
+use calls::After;
 use network_form::Head;
-use network_options::{NetworkOptions, Refusal, Settled};
-use network_queue::{RECORD_SIZE, WORDS};
-use network_send::{Letter, SendAnswer};
-use network_take::Counted;
+use network_options::{NetworkOptions, Refusal};
+use network_queue::WORDS;
+use network_send::{Accepted, Letter};
 
 #[derive(Clone, Copy)]
 pub struct Network {
@@ -28,54 +27,15 @@ pub struct Network {
     pub words: [u64; WORDS],
 }
 
-// The network that follows a call, with the call's answer.
-#[derive(Clone, Copy)]
-pub struct Next {
-    pub network: Network,
-    pub answer: Settled,
-}
-
-#[derive(Clone, Copy)]
-pub struct Taken {
-    pub network: Network,
-    pub answer: Counted,
-}
-
-#[derive(Clone, Copy)]
-pub struct Sent {
-    pub network: Network,
-    pub answer: SendAnswer,
-}
-
-// The head that follows a change of options, with the answer.
-#[derive(Clone, Copy)]
-struct HeadNext {
-    head: Head,
-    answer: Settled,
-}
-
-// A change of the options. The records stay.
-fn options_in(w: &[u64; WORDS], head: Head, options: NetworkOptions) -> HeadNext
-    requires { length w.now ≡ array_size }
-    ensures head { result.head ≡ head_after (choose (plain_options options)) head w.now }
+// Whether a network may change its options to these. The records stay.
+fn options_in(w: &[u64; WORDS], head: Head, options: NetworkOptions) -> Result<(), Refusal>
+    ensures answer { settled_of result ≡ answer_in (choose (plain_options options)) head w.now }
     ensures records { w.now ≡ records_after (choose (plain_options options)) head w.now }
-    ensures answer { settled_of result.answer ≡ answer_in (choose (plain_options options)) head w.now }
 {
     if !network_form::formed(w, head) {
-        return HeadNext {
-            head: head,
-            answer: Settled::Refused(Refusal::IllFormed),
-        };
+        return Err(Refusal::IllFormed);
     }
-    let answer = options.validate();
-    let mut next = head;
-    if let Settled::Done = answer {
-        next.options = options;
-    }
-    HeadNext {
-        head: next,
-        answer: answer,
-    }
+    options.validate()
 }
 
 // A fresh network of good options.
@@ -83,19 +43,9 @@ fn empty(options: NetworkOptions) -> Network
     requires { good_options (plain_options options) ≡ true }
     ensures { result ≡ struct_of (fresh (plain_options options)) }
 {
-    let head = Head {
-        options: options,
-        pending: 0,
-        seq: 0,
-        sent: 0,
-        delivered: 0,
-        lost: 0,
-        replayed: 0,
-        delayed: 0,
-    };
     Network {
-        head: head,
-        words: [0u64; WORDS],
+        head: Head::empty(options),
+        words: [0; WORDS],
     }
 }
 
@@ -119,109 +69,88 @@ impl Network {
     }
 
     // A fresh network of these options: nothing in flight, nothing counted. Beside a refusal stands that of the perfect options.
-    pub fn new(options: NetworkOptions) -> Next
-        ensures network { result.network ≡ first_network (plain_options options) }
+    pub fn new(options: NetworkOptions) -> After<Network, Result<(), Refusal>>
+        ensures network { result.state ≡ first_network (plain_options options) }
         ensures answer { settled_of result.answer ≡ verdict (option_tests (plain_options options) []) }
     {
-        let Settled::Refused(refusal) = options.validate() else {
-            return Next {
-                network: empty(options),
-                answer: Settled::Done,
-            };
+        let answer = options.validate();
+        let first = if answer.is_ok() {
+            options
+        } else {
+            NetworkOptions::perfect()
         };
-        Next {
-            network: empty(NetworkOptions::perfect()),
-            answer: Settled::Refused(refusal),
+        After {
+            state: empty(first),
+            answer,
         }
     }
 
     // Replaces the fault options. Messages already in flight keep their scheduled delivery tick.
-    pub fn set_options(self, options: NetworkOptions) -> Next
-        ensures network { result.network ≡ call_network (choose (plain_options options)) self }
+    pub fn set_options(self, options: NetworkOptions) -> After<Network, Result<(), Refusal>>
+        ensures network { result.state ≡ call_network (choose (plain_options options)) self }
         ensures answer { settled_of result.answer ≡ call_answer (choose (plain_options options)) self }
     {
-        let words = self.words;
-        let next = options_in(&words, self.head, options);
-        let head = next.head;
-        let answer = next.answer;
-        Next {
-            network: Network {
-                head: head,
-                words: words,
-            },
-            answer: answer,
+        let answer = options_in(&self.words, self.head, options);
+        let mut next = self;
+        if answer.is_ok() {
+            next.head.options = options;
+        }
+        After {
+            state: next,
+            answer,
         }
     }
 
     // Number of messages in flight.
-    pub fn pending(self) -> Counted
+    pub fn pending(self) -> Result<usize, Refusal>
         ensures { counted_of result ≡ count_tells self.head self.words }
     {
-        let words = self.words;
-        network_take::count_in(&words, self.head)
+        network_take::count_in(&self.words, self.head)
     }
 
-    // Messages in flight, in delivery order, at the front of the lent output.
-    pub fn in_flight(self, out: &mut [u64]) -> Counted
+    // Messages in flight, in delivery order, at the front of the lent output, and how many they are.
+    pub fn in_flight(self, out: &mut [u64]) -> Result<usize, Refusal>
         ensures answer { counted_of result ≡ list_tells (length out.old) self.head self.words }
         ensures out { out.new ≡ list_gives out.old self.head self.words }
     {
-        let words = self.words;
-        network_take::list_in(&words, self.head, out)
+        network_take::list_in(&self.words, self.head, out)
     }
 
-    // Takes every message due at tick `now`, in delivery order, to the front of the lent output.
-    pub fn take_due(self, now: u64, out: &mut [u64]) -> Taken
-        ensures network { result.network ≡ call_network (collect now (length out.old)) self }
+    // Takes every message due at tick `now`, in delivery order, to the front of the lent output: how many they are.
+    pub fn take_due(self, now: u64, out: &mut [u64]) -> After<Network, Result<usize, Refusal>>
+        ensures network { result.state ≡ call_network (collect now (length out.old)) self }
         ensures answer { counted_of result.answer ≡ take_tells now (length out.old) self.head self.words }
         ensures out { out.new ≡ take_gives now out.old self.head self.words }
     {
         let mut words = self.words;
         let taken = network_take::take_in(&mut words, self.head, now, out);
-        let head = taken.head;
-        let answer = taken.answer;
-        Taken {
-            network: Network {
-                head: head,
-                words: words,
+        After {
+            state: Network {
+                head: taken.state,
+                words,
             },
-            answer: answer,
+            answer: taken.answer,
         }
     }
 
-    // Accepts a message sent at tick `now`, applying faults.
+    // Accepts a message, applying faults.
     pub fn send(
         self,
-        now: u64,
-        sort: u64,
-        origin: u64,
-        to: u64,
-        kind: u64,
-        handle: u64,
+        letter: Letter,
         draws: &[u64],
         extras: &[u64],
-    ) -> Sent
-        ensures network { result.network ≡ call_network (send (letter_of now sort origin to kind handle) draws.now extras.now) self }
-        ensures answer { sent_of result.answer ≡ send_tells (letter_of now sort origin to kind handle) draws.now extras.now self.head self.words }
+    ) -> After<Network, Result<Accepted, Refusal>>
+        ensures network { result.state ≡ call_network (send (plain_letter letter) draws.now extras.now) self }
+        ensures answer { sent_of result.answer ≡ send_tells (plain_letter letter) draws.now extras.now self.head self.words }
     {
-        let letter = Letter {
-            now: now,
-            sort: sort,
-            origin: origin,
-            to: to,
-            kind: kind,
-            handle: handle,
-        };
         let mut words = self.words;
         let sent = network_send::send_in(&mut words, self.head, letter, draws, extras);
-        let head = sent.head;
-        let answer = sent.answer;
-        Sent {
-            network: Network {
-                head: head,
-                words: words,
+        After {
+            state: Network {
+                head: sent.state,
+                words,
             },
-            answer: answer,
+            answer: sent.answer,
         }
     }
 }

@@ -17,9 +17,7 @@ use Rattle.network_take.specs.Takes.{due_records, take_gives}
 use Rattle.network_layout.specs.Layout.{head_fits, head_in, head_words, if_head}
 use Rattle.network_words.specs.Calls.{Rows}
 use Rattle.network_layout.proofs.Heads.{no_head, a_head}
-use Rattle.network_batch.specs.declared.Run.{Run}
-use Rattle.network_batch.specs.Ticks.{message_words, most_messages, number_at, Ran, all, stopped, sends_from, refused_at, taking_last, after_sends, batch_tested, ticked, sends_tested, batch_ran, after_queue, queued, ran_of}
-use Rattle.network_batch.proofs.Sending.{ran_stopped}
+use Rattle.network_batch.specs.Ticks.{message_words, most_messages, number_at, Ran, all, stopped, sends_from, refused_at, taking_last, after_sends, batch_tested, ticked, sends_tested, batch_ran, after_queue, queued}
 
 -- ---- the tests and the sends
 
@@ -40,7 +38,7 @@ module _ (h r sends draws extras : List ℕ) where
     ill_formed w = ap (sends_tested h r sends draws extras) (a_head h (form_answer (head_in h) r) f ∙ form_ill (head_in h) r w)
 
     module _ (w : formed_in (head_in h) r ≡ true) where
-      opens : whole ≡ sends_tested h r sends draws extras done
+      pub opens : whole ≡ sends_tested h r sends draws extras done
       opens = ap (sends_tested h r sends draws extras) (a_head h (form_answer (head_in h) r) f ∙ form_well (head_in h) r w)
 
       pub too_many : most_messages < count → whole ≡ stopped 24 most_messages
@@ -79,15 +77,6 @@ module _ (h r sends draws extras : List ℕ) where
         go true p true q true y true u =
             let c = leb-true count most_messages y in
             record { formed = q; few = c; ran = sym (sends_run p q c (eqb-true (length sends) (message_words * count) u)) ∙ e }
-
--- a run that is refused before its first send
-pub unsent_run : {A : Type 0} (t : Run) (w : List ℕ) (ran : Ran) (k p : ℕ) → (t.refusal ≡ k) × (t.place ≡ p) → ran ≡ stopped k p
-    → (k ≡ 0 → ⊥) → k ≤ 33 → p ≤ most_messages
-    → (ran_of t w ≡ ran) × (((t.refusal ≡ 0 → ⊥) → (w ≡ w) × (t.refusal ≤ 33) × (t.place ≤ most_messages)) × (t.refusal ≡ 0 → A))
-unsent_run t w ran k p e g n s m = (
-  ran_stopped t w (λ z. n (sym e.0 ∙ z)) ∙ rw (e.0, e.1) (sym g),
-  ((λ _. (refl, omega (arith, e.0, s), omega (arith, e.1, m))), λ z. absurd (n (sym e.0 ∙ z))),
-)
 
 -- ---- and then a take
 

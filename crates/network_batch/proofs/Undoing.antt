@@ -6,6 +6,7 @@ use mathlib.Core.Bool.{true}
 use Prim.Native.Nat.{ℕ, ◌≤◌, ◌<◌}
 use native.Mathlib.Omega.{arith}
 use borrow.Author.Tests.{le-leb, lt-leb}
+use lib.ListN.{length}
 use Rattle.nights.specs.Record.{Record, recs}
 use Rattle.nights.specs.Net.{dues, copies, Letter, keep, send, effect}
 use Rattle.nights.specs.Draws.{fate_of}
@@ -13,7 +14,7 @@ use Rattle.nights.specs.Tests.{done}
 use Rattle.nights.proofs.Order.{keep_all, all_map, unseen_all}
 use Rattle.nights.proofs.Good.{copies_above}
 use Rattle.nights.proofs.Kept.{good}
-use Rattle.network_queue.specs.Packed.{packed}
+use Rattle.network_queue.specs.Packed.{array_size, packed}
 use Rattle.network_drop.specs.Numbered.{up_to}
 use Rattle.network_options.specs.Options.{plain_options}
 use Rattle.network_form.specs.declared.Head.{Head}
@@ -22,7 +23,6 @@ use Rattle.network_form.specs.Calls.{answer_in, head_after, records_after}
 use Rattle.network_form.proofs.Maps.{plain_formed, words_are}
 use Rattle.network_form.proofs.Calling.{head_follows}
 use Rattle.network_form.proofs.Laws.{send_adds}
-use Rattle.network_batch.proofs.Sending.{Whole}
 
 -- a network t, v that sends on h, w have left
 pub record Older (h : Head) (w : List ℕ) (t : Head) (v : List ℕ) : Type 0 where
@@ -63,7 +63,7 @@ module _ (h : Head) (w : List ℕ) (t : Head) (v : List ℕ) (o : Older h w t v)
         }
 
 -- without the newer ones
-pub undone : (h : Head) (w : List ℕ) (t : Head) (v : List ℕ) → Whole h w
+pub undone : (h : Head) (w : List ℕ) (t : Head) (v : List ℕ) → formed_in h w ≡ true → length w ≡ array_size
     → keep (up_to h.seq) (recs v 0 t.pending) ≡ recs w 0 h.pending
     → (z : List ℕ) → z ≡ packed (keep (up_to h.seq) (recs v 0 t.pending)) → z ≡ w
-undone h w t v a o z e = e ∙ (ap packed o ∙ words_are h w a.formed a.long)
+undone h w t v f long o z e = e ∙ (ap packed o ∙ words_are h w f long)

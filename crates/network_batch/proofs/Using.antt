@@ -2,50 +2,44 @@
 use Prim.Native.Nat.{ℕ, ◌+◌, ◌≤◌}
 use mathlib.Core.Path.{◌≡◌, refl}
 use mathlib.Core.Bool.{Bool, true, false, cond, ◌&&◌}
-use mathlib.Core.List.{List, [], ◌∷◌}
+use mathlib.Core.List.{List}
 use native.Mathlib.Omega.{arith}
 use borrow.Author.Tests.{ltb-true, leb-true}
 use lib.Dec.{leb, ltb}
 use lib.Ieee.{Float, binary64, of_bits, to_bits}
 use lib.ListN.{length, get_or}
 use Rattle.chance.specs.Probability.{is_one, is_zero, threshold_of}
-use Rattle.chance.specs.Draw.{by_word, gen_bool, gen_bool_in_send}
+use Rattle.std.specs.Prelude.{Option, Some, None}
+use Rattle.chance.specs.Draw.{drawn, by_word, gen_bool, gen_bool_in_send}
 use Rattle.chance.specs.declared.Draw.{Draw}
-use Rattle.chance.specs.declared.Draw.TheVariants.{Yes, No, Short}
-use Rattle.nights.specs.Net.{Options, once, twice, Letter, send}
-use Rattle.nights.specs.Draws.{Decided, refusing, is_faulted, extras_for, due_at, is_tick, is_late, alone, both, after_replay, after_loss, decided, fate_of}
-use Rattle.nights.specs.Tests.{refused, Test, verdict, refusal, send_tests, tests}
+use Rattle.nights.specs.Net.{Options, lose, once, twice}
+use Rattle.nights.specs.Draws.{Decided, refusing, is_faulted, extras_for, due_at, is_tick, is_late, alone, both, after_replay, after_loss, decided}
+use Rattle.nights.specs.Tests.{refusal}
 use Rattle.network_options.specs.declared.Refusal.{Refusal}
 use Rattle.network_options.specs.declared.Refusal.TheVariants.{BadLoss, BadReplay, MinOverMean, IllFormed, BadKindOrSort, SentLimit, ShortDraws, ShortExtras, LateTick, Full, ShortOutput, BadJournal, NoJournalRoom, TooFarBack}
 use Rattle.network_options.specs.Answers.{refusal_number}
-use Rattle.network_options.specs.Options.{plain_options}
-use Rattle.network_form.specs.declared.Head.{Head}
-use Rattle.network_form.specs.Forms.{plain_in}
-use Rattle.network_form.specs.Calls.{form_test, answer_in}
 
 -- ---- draws
 
 -- the place of the next word, after a draw that found one
-abbrev next : Draw → ℕ
-next (Yes place) = place
-next (No place) = place
-next Short = 0
+abbrev next : Option Draw → ℕ
+next (Some d) = d.next
+next None = 0
 
 module _ (p : Float) (draws : List ℕ) (place : ℕ) (h : place ≤ length draws) where
   by_word_lem : next (by_word p draws place) ≤ length draws
   unfolding by_word
   by_word_lem = go (ltb place (length draws)) refl (ltb (get_or draws place 0) (threshold_of (to_bits binary64 p)))
     where
-      go : (b : Bool) → ltb place (length draws) ≡ b → (d : Bool) → next (cond b (cond d (Yes (place + 1)) (No (place + 1))) Short) ≤ length draws
-      go true e true = omega (arith, ltb-true place (length draws) e)
-      go true e false = omega (arith, ltb-true place (length draws) e)
+      go : (b : Bool) → ltb place (length draws) ≡ b → (d : Bool) → next (cond b (drawn d (place + 1)) None) ≤ length draws
+      go true e d = omega (arith, ltb-true place (length draws) e)
       go false e d = omega arith
 
   in_send : next (gen_bool_in_send p draws place) ≤ length draws
   unfolding gen_bool gen_bool_in_send
   in_send = go (is_zero p) (is_one p)
     where
-      go : (z o : Bool) → next (cond z (No place) (cond o (Yes place) (by_word p draws place))) ≤ length draws
+      go : (z o : Bool) → next (cond z (drawn false place) (cond o (drawn true place) (by_word p draws place))) ≤ length draws
       go true o = h
       go false true = h
       go false false = by_word_lem
@@ -78,17 +72,24 @@ module _ (o : Options) (now : ℕ) (draws extras : List ℕ) where
         go true e false = record { draws_within = omega arith; extras_within = omega arith; number_small = omega arith }
         go false e t = record { draws_within = omega arith; extras_within = omega arith; number_small = omega arith }
 
-  replay_modest : (d : Draw) → next d ≤ length draws → Modest draws extras (after_replay o now extras d)
+  replay_modest : (d : Option Draw) → next d ≤ length draws → Modest draws extras (after_replay o now extras d)
   unfolding after_replay
-  replay_modest (Yes place) h = two_copies place h
-  replay_modest (No place) h = one_copy place h
-  replay_modest Short h = record { draws_within = omega arith; extras_within = omega arith; number_small = omega arith }
+  replay_modest (Some d) h = go d.yes
+    where
+      go : (b : Bool) → Modest draws extras (cond b (both o now extras d.next) (alone o now extras d.next))
+      go true = two_copies d.next h
+      go false = one_copy d.next h
+  replay_modest None h = record { draws_within = omega arith; extras_within = omega arith; number_small = omega arith }
 
-  loss_modest : (d : Draw) → next d ≤ length draws → Modest draws extras (after_loss o now draws extras d)
+  loss_modest : (d : Option Draw) → next d ≤ length draws → Modest draws extras (after_loss o now draws extras d)
   unfolding after_loss
-  loss_modest (Yes place) h = record { draws_within = h; extras_within = omega arith; number_small = omega arith }
-  loss_modest (No place) h = replay_modest _ (in_send (of_bits binary64 o.replay) draws place h)
-  loss_modest Short h = record { draws_within = omega arith; extras_within = omega arith; number_small = omega arith }
+  loss_modest (Some d) h = go d.yes
+    where
+      go : (b : Bool)
+          → Modest draws extras (cond b (record { fate = lose; draws = d.next; extras = 0 }) (after_replay o now extras (gen_bool_in_send (of_bits binary64 o.replay) draws d.next)))
+      go true = record { draws_within = h; extras_within = omega arith; number_small = omega arith }
+      go false = replay_modest _ (in_send (of_bits binary64 o.replay) draws d.next h)
+  loss_modest None h = record { draws_within = omega arith; extras_within = omega arith; number_small = omega arith }
 
   pub modest : (kind : ℕ) → Modest draws extras (decided o now kind draws extras)
   unfolding decided
@@ -99,25 +100,6 @@ module _ (o : Options) (now : ℕ) (draws extras : List ℕ) where
       go false = record { draws_within = omega arith; extras_within = omega arith; number_small = omega arith }
 
 -- ---- the numbers of refusals
-
-abbrev Under : List Test → Type 0
-Under [] = Unit {0}
-Under (t ∷ ts) = (t.number ≤ 33) × Under ts
-
-under : (ts : List Test) → Under ts → (k : ℕ) → verdict ts ≡ refused k → k ≤ 33
-unfolding verdict
-under [] u k e = let z : ◌≡◌ {A = ℕ} 0 1 = cc in absurd (omega arith)
-under (t ∷ ts) u k e = go t.passes (λ q. under ts u.1 k q) e
-  where
-    go : (b : Bool) → (verdict ts ≡ refused k → k ≤ 33) → cond b (verdict ts) (refused t.number) ≡ refused k → k ≤ 33
-    go true more q = more q
-    go false more q = let z : t.number ≡ k = cc in omega (arith, u.0)
-
-pub send_number : (m : Letter) (draws extras : List ℕ) (h : Head) (w : List ℕ) (k : ℕ) → answer_in (send m draws extras) h w ≡ refused k → k ≤ 33
-unfolding answer_in tests
-send_number m draws extras h w k e =
-    under (form_test h w ∷ send_tests m (fate_of (plain_options h.options) m.now m.kind draws extras) (plain_in h w) [])
-    (omega arith, (omega arith, (omega arith, ((modest (plain_options h.options) m.now draws extras m.kind).number_small, (omega arith, tt))))) k e
 
 pub number_under : (r : Refusal) → refusal_number r ≤ 33
 number_under BadLoss = omega arith

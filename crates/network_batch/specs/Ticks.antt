@@ -1,18 +1,21 @@
 -- A tick of the network: sends one after the other, each with what is left of the draws and extras, and then a take, each as the plain
 -- call is (RULES, "The host's boundary"). The first that is refused answers with its number and place. Assumes nothing.
-use Rattle.std.specs.Prelude.{ℕ, zero, suc, ◌+◌, ◌*◌, ◌/◌, ◌^◌, cond, List, [], ◌∷◌, leb, eqb, length, drop, get_or}
+use Rattle.std.specs.Prelude.{ℕ, zero, suc, ◌+◌, ◌*◌, ◌/◌, ◌^◌, cond, List, [], ◌∷◌, leb, eqb, length, drop, get_or, Result, Ok, Err, ◌≡◌, ◌≤◌}
 use Rattle.nights.specs.Record.{record_words}
 use Rattle.nights.specs.Net.{Letter, Change, send, collect}
 use Rattle.nights.specs.Draws.{Decided, decided}
 use Rattle.nights.specs.Tests.{Answer, done, refused}
+use Rattle.calls.specs.declared.After.{After}
 use Rattle.network_options.specs.Options.{plain_options}
+use Rattle.network_options.specs.Answers.{refusal_number}
 use Rattle.network_form.specs.declared.Head.{Head}
 use Rattle.network_form.specs.Calls.{answer_in, head_after, records_after, form_answer}
 use Rattle.network_send.specs.Sends.{letter_of}
 use Rattle.network_take.specs.Takes.{due_records}
 use Rattle.network_layout.specs.Layout.{head_in, head_words, if_head}
 use Rattle.network_words.specs.Calls.{Rows, in_front}
-use Rattle.network_batch.specs.declared.Run.{Run}
+use Rattle.network_batch.specs.declared.Stopped.{Stopped}
+use Rattle.network_batch.specs.declared.Used.{Used}
 
 -- the words of a message, and the most messages of a tick
 abbrev pub message_words : ℕ
@@ -115,6 +118,23 @@ module _ (h r sends draws extras : List ℕ) where
   abbrev pub queued : (told : List ℕ) → Rows
   queued told = after_queue batch_ran told
 
--- INSIDE: what the code's run of the sends says
-abbrev pub ran_of : Run → List ℕ → Ran
-ran_of t w = cond (eqb t.refusal 0) (all t.head w t.draws t.extras) (stopped t.refusal t.place)
+-- INSIDE: what the code's run of the sends says, on the head and the records that it leaves
+abbrev pub ran_of : Result Used Stopped → Head → List ℕ → Ran
+ran_of (Ok u) h w = all h w u.draws u.extras
+ran_of (Err s) h w = stopped (refusal_number s.refusal) s.place
+
+abbrev pub batch_of : Result (After Head Used) Stopped → List ℕ → Ran
+batch_of (Ok t) w = all t.state w t.answer.draws t.answer.extras
+batch_of (Err s) w = stopped (refusal_number s.refusal) s.place
+
+-- how many messages a list has, where it passes its tests, and else what a batch of it is
+abbrev pub Counts : Result ℕ Stopped → List ℕ → Type 0
+Counts (Ok n) sends = (n ≡ length sends / message_words) × (n ≤ most_messages) × (length sends ≡ message_words * n)
+Counts (Err s) sends =
+    (s.place ≤ most_messages)
+    × ((h r draws extras : List ℕ) → sends_tested h r sends draws extras done ≡ stopped (refusal_number s.refusal) s.place)
+
+-- the number of what is done or stopped
+abbrev pub stop_number : Result Unit Stopped → ℕ
+stop_number (Ok u) = 0
+stop_number (Err s) = number_at (refusal_number s.refusal) s.place

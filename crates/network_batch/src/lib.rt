@@ -4,22 +4,23 @@
 // which are those of the newest numbers.
 #![tactic(auto)]
 
-ghost use Rattle.std.specs.Prelude.{◌≡◌, true, ◌+◌, ◌*◌, ◌≤◌, length};
+ghost use Rattle.std.specs.Prelude.{◌≡◌, true, ◌+◌, ◌*◌, ◌≤◌, length, IfOk, IfErr};
 ghost use Rattle.nights.specs.Record.{recs};
 ghost use Rattle.nights.specs.Net.{keep};
-ghost use Rattle.network_queue.specs.Packed.{packed, array_size};
+ghost use Rattle.network_queue.specs.Packed.{packed};
 ghost use Rattle.network_drop.specs.Numbered.{up_to};
+ghost use Rattle.network_options.specs.Answers.{refusal_number};
 ghost use Rattle.network_form.specs.Forms.{formed_in};
 ghost use Rattle.network_layout.specs.Layout.{head_in};
 ghost use Rattle.network_send.specs.Sends.{plain_letter};
-ghost use Rattle.network_batch.specs.Ticks.{message_words, most_messages, letter_at, number_at, sends_from, ticked, batch_ran, queued, ran_of};
+ghost use Rattle.network_batch.specs.Ticks.{message_words, most_messages, letter_at, number_at, sends_from, ticked, batch_ran, queued, ran_of, batch_of, stop_number, Counts};
 
+use calls::After;
 use network_form::Head;
-use network_layout::{HEAD_WORDS, ILL_FORMED};
-use network_options::number_of;
+use network_layout::HEAD_WORDS;
+use network_options::Refusal;
 use network_queue::WORDS;
-use network_send::{Letter, SendAnswer};
-use network_take::Counted;
+use network_send::Letter;
 
 // The words of a message: the tick it is sent at, the sender's sort and id, the receiver, kind and handle.
 pub const MESSAGE: usize = 6;
@@ -30,14 +31,29 @@ pub const MOST: usize = 65536;
 // A refusal's number stands above the low 32 bits, and the call's place in them.
 const PLACED: u64 = 0x1_0000_0000;
 
-// The number of a list that is no whole number of messages, or has too many.
-const BROKEN_MESSAGE: u64 = 24;
+// The words that the sends of a batch used, from the front of their lists.
+#[derive(Clone, Copy)]
+struct Used {
+    draws: usize,
+    extras: usize,
+}
 
-fn at(number: u64, place: usize) -> u64
-    requires { (number ≤ 33) × (place ≤ most_messages) }
-    ensures { result ≡ number_at number place }
-{
-    number * PLACED + place as u64
+// Why a batch is refused, and the place of the call that is. A list that is no whole number of messages, or has too many, is refused as
+// a message of a bad kind.
+#[derive(Clone, Copy)]
+struct Stopped {
+    refusal: Refusal,
+    place: usize,
+}
+
+impl Stopped {
+    #[tactic(auto, using(crate::proofs::Using::number_under))]
+    fn number(self) -> u64
+        requires { self.place ≤ most_messages }
+        ensures { result ≡ number_at (refusal_number self.refusal) self.place }
+    {
+        self.refusal.number() * PLACED + self.place as u64
+    }
 }
 
 // The message at a place of the list.
@@ -56,16 +72,6 @@ fn letter_at(sends: &[u64], place: usize) -> Letter
     }
 }
 
-// What the sends leave: the head and the words used, or the number and the place of the first that is refused.
-#[derive(Clone, Copy)]
-struct Run {
-    refusal: u64,
-    place: usize,
-    head: Head,
-    draws: usize,
-    extras: usize,
-}
-
 // The sends, one after the other, up to the first that is refused. Of the records then pending, those numbered as before are the old ones.
 fn send_all(
     records: &mut [u64; WORDS],
@@ -74,73 +80,71 @@ fn send_all(
     count: usize,
     draws: &[u64],
     extras: &[u64],
-) -> Run
-    requires { (length records.old ≡ array_size) × (formed_in head records.old ≡ true) × (message_words * count ≤ length sends.now) }
-    ensures ran { ran_of result records.new
+) -> After<Head, Result<Used, Stopped>>
+    requires { (formed_in head records.old ≡ true) × (message_words * count ≤ length sends.now) }
+    ensures ran { ran_of result.answer result.state records.new
         ≡ sends_from sends.now draws.now extras.now count 0 0 0 head records.old }
-    ensures whole { (length records.new ≡ array_size) × (formed_in result.head records.new ≡ true) }
-    ensures older { keep (up_to head.seq) (recs records.new 0 result.head.pending)
+    ensures whole { formed_in result.state records.new ≡ true }
+    ensures within { IfErr result.answer (λ s. s.place ≤ count) }
+    ensures older { keep (up_to head.seq) (recs records.new 0 result.state.pending)
         ≡ recs records.old 0 head.pending }
 {
     let mut me = head;
-    let mut drawn: usize = 0;
-    let mut added: usize = 0;
-    let mut i: usize = 0;
-    while i < count {
-        let letter = letter_at(sends, i);
+    let mut drawn = 0;
+    let mut added = 0;
+    for place in 0..count {
+        let letter = letter_at(sends, place);
         let sent = network_send::send_on(records, me, letter, &draws[drawn..], &extras[added..]);
-        let answer = sent.answer;
-        match answer {
-            SendAnswer::Refused(refusal) => {
-                return Run {
-                    refusal: number_of(refusal),
-                    place: i,
-                    head: me,
-                    draws: drawn,
-                    extras: added,
+        me = sent.state;
+        match sent.answer {
+            Err(refusal) => {
+                return After {
+                    state: me,
+                    answer: Err(Stopped { refusal, place }),
                 };
             }
-            SendAnswer::Accepted {
-                lost: _,
-                replayed: _,
-                draws: used,
-                extras: more,
-            } => {
-                me = sent.head;
-                drawn += used;
-                added += more;
+            Ok(accepted) => {
+                drawn += accepted.draws;
+                added += accepted.extras;
             }
         }
-        i += 1;
     }
-    Run {
-        refusal: 0,
-        place: count,
-        head: me,
-        draws: drawn,
-        extras: added,
+    After {
+        state: me,
+        answer: Ok(Used {
+            draws: drawn,
+            extras: added,
+        }),
     }
 }
 
 // The records without those numbered above `last`, the number of a network before its sends.
 fn take_back(records: &mut [u64; WORDS], after: Head, last: u64)
-    requires { (length records.old ≡ array_size) × (formed_in after records.old ≡ true) }
+    requires { formed_in after records.old ≡ true }
     ensures { records.new ≡ packed (keep (up_to last) (recs records.old 0 after.pending)) }
 {
     network_drop::drop_above(records, after.pending, last);
 }
 
-// A run that is refused before its first send.
-fn unsent(refusal: u64, place: usize, head: Head) -> Run
-    ensures { (result.refusal ≡ refusal) × (result.place ≡ place) }
+// How many messages the list has, if it has no more than the most and they are whole ones.
+#[tactic(auto, unfolding(crate::specs::Ticks::sends_tested))]
+fn count_of(sends: &[u64]) -> Result<usize, Stopped>
+    ensures { Counts result sends.now }
 {
-    Run {
-        refusal: refusal,
-        place: place,
-        head: head,
-        draws: 0,
-        extras: 0,
+    let count = sends.len() / MESSAGE;
+    if MOST < count {
+        return Err(Stopped {
+            refusal: Refusal::BadKindOrSort,
+            place: MOST,
+        });
     }
+    if count * MESSAGE != sends.len() {
+        return Err(Stopped {
+            refusal: Refusal::BadKindOrSort,
+            place: count,
+        });
+    }
+    Ok(count)
 }
 
 // The tests of the network and of the list, and the sends. Where one is refused the records are as they came; and else they are so again
@@ -151,36 +155,79 @@ fn run_sends(
     sends: &[u64],
     draws: &[u64],
     extras: &[u64],
-) -> Run
-    ensures ran { ran_of result records.new
+) -> Result<After<Head, Used>, Stopped>
+    ensures ran { batch_of result records.new
         ≡ batch_ran head.now records.old sends.now draws.now extras.now }
-    ensures kept { (result.refusal ≡ 0 → ⊥) → (records.new ≡ records.old) × (result.refusal ≤ 33) × (result.place ≤ most_messages) }
-    ensures sent { result.refusal ≡ 0 → (length records.new ≡ array_size) × (formed_in result.head records.new ≡ true)
-        × (packed (keep (up_to (head_in head.now).seq) (recs records.new 0 result.head.pending)) ≡ records.old) }
+    ensures kept { IfErr result (λ s. (records.new ≡ records.old) × (s.place ≤ most_messages)) }
+    ensures sent { IfOk result (λ t. (formed_in t.state records.new ≡ true)
+        × (packed (keep (up_to (head_in head.now).seq) (recs records.new 0 t.state.pending)) ≡ records.old)) }
 {
-    let loaded = network_layout::load(head);
-    if !loaded.fits {
-        return unsent(ILL_FORMED, 0, loaded.head);
+    let ill_formed = Stopped {
+        refusal: Refusal::IllFormed,
+        place: 0,
+    };
+    let Some(start) = network_layout::load(head) else {
+        return Err(ill_formed);
+    };
+    if !network_form::formed(records, start) {
+        return Err(ill_formed);
     }
-    network_queue::whole(records);
-    if !network_form::formed(records, loaded.head) {
-        return unsent(ILL_FORMED, 0, loaded.head);
+    let count = count_of(sends)?;
+    let run = send_all(records, start, sends, count, draws, extras);
+    match run.answer {
+        Ok(used) => Ok(After {
+            state: run.state,
+            answer: used,
+        }),
+        Err(stopped) => {
+            take_back(records, run.state, start.seq);
+            Err(stopped)
+        }
     }
-    let count = sends.len() / MESSAGE;
-    if MOST < count {
-        return unsent(BROKEN_MESSAGE, MOST, loaded.head);
+}
+
+// The tick, answering with the call that is refused.
+fn tick_in(
+    head: &mut [u64; HEAD_WORDS],
+    records: &mut [u64; WORDS],
+    sends: &[u64],
+    draws: &[u64],
+    extras: &[u64],
+    now: u64,
+    out: &mut [u64],
+    told: &mut [u64; 3],
+) -> Result<(), Stopped>
+    ensures answer { stop_number result ≡ (ticked head.old records.old sends.now draws.now extras.now now out.old told.old).number }
+    ensures within { IfErr result (λ s. s.place ≤ most_messages) }
+    ensures head { head.new ≡ (ticked head.old records.old sends.now
+        draws.now extras.now now out.old told.old).head }
+    ensures records { records.new ≡ (ticked head.old records.old sends.now
+        draws.now extras.now now out.old told.old).records }
+    ensures out { out.new ≡ (ticked head.old records.old sends.now
+        draws.now extras.now now out.old told.old).out }
+    ensures told { told.new ≡ (ticked head.old records.old sends.now
+        draws.now extras.now now out.old told.old).told }
+{
+    let run = run_sends(head, records, sends, draws, extras)?;
+    let taken = network_take::take_on(records, run.state, now, out);
+    match taken.answer {
+        Err(refusal) => {
+            take_back(records, run.state, head[network_layout::SEQ]);
+            Err(Stopped {
+                refusal,
+                place: sends.len() / MESSAGE,
+            })
+        }
+        Ok(k) => {
+            network_layout::store(taken.state, head);
+            *told = [run.answer.draws as u64, run.answer.extras as u64, k as u64];
+            Ok(())
+        }
     }
-    if count * MESSAGE != sends.len() {
-        return unsent(BROKEN_MESSAGE, count, loaded.head);
-    }
-    let run = send_all(records, loaded.head, sends, count, draws, extras);
-    if run.refusal != 0 {
-        take_back(records, run.head, loaded.head.seq);
-    }
-    run
 }
 
 // The sends of a tick and then a take at `now`: the draws and the extras used and the records taken are told.
+// Kept: the C interface tells a refusal and its place by one number (bellmantle_network_tick), here and in the call below.
 pub fn tick(
     head: &mut [u64; HEAD_WORDS],
     records: &mut [u64; WORDS],
@@ -202,22 +249,9 @@ pub fn tick(
     ensures told { told.new ≡ (ticked head.old records.old sends.now
         draws.now extras.now now out.old told.old).told }
 {
-    let run = run_sends(head, records, sends, draws, extras);
-    if run.refusal != 0 {
-        return at(run.refusal, run.place);
-    }
-    let taken = network_take::take_on(records, run.head, now, out);
-    let answer = taken.answer;
-    match answer {
-        Counted::Refused(refusal) => {
-            take_back(records, run.head, head[network_layout::SEQ]);
-            at(number_of(refusal), sends.len() / MESSAGE)
-        }
-        Counted::Records(k) => {
-            network_layout::store(taken.head, head);
-            *told = [run.draws as u64, run.extras as u64, k as u64];
-            0
-        }
+    match tick_in(head, records, sends, draws, extras, now, out, told) {
+        Ok(()) => 0,
+        Err(stopped) => stopped.number(),
     }
 }
 
@@ -239,11 +273,12 @@ pub fn queue(
     ensures told { told.new ≡ (queued head.old records.old sends.now
         draws.now extras.now told.old).told }
 {
-    let run = run_sends(head, records, sends, draws, extras);
-    if run.refusal != 0 {
-        return at(run.refusal, run.place);
+    match run_sends(head, records, sends, draws, extras) {
+        Ok(run) => {
+            network_layout::store(run.state, head);
+            *told = [run.answer.draws as u64, run.answer.extras as u64];
+            0
+        }
+        Err(stopped) => stopped.number(),
     }
-    network_layout::store(run.head, head);
-    *told = [run.draws as u64, run.extras as u64];
-    0
 }

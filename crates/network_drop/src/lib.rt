@@ -4,7 +4,6 @@
 ghost use Rattle.std.specs.Prelude.{◌≡◌, ◌++◌, ◌-◌, ◌*◌, ◌≤◌, length, drop, replicate};
 ghost use Rattle.nights.specs.Record.{record_words, recs, record_size};
 ghost use Rattle.nights.specs.Net.{keep, capacity};
-ghost use Rattle.network_queue.specs.Packed.{array_size};
 ghost use Rattle.network_drop.specs.Numbered.{up_to};
 
 use network_queue::{RECORD_SIZE, SEQ, WORDS};
@@ -15,40 +14,36 @@ fn first_above(w: &[u64; WORDS], n: usize, last: u64) -> usize
     ensures within { result ≤ n }
     ensures kept { keep (up_to last) (recs w.now 0 result) ≡ recs w.now 0 result }
 {
-    let mut i: usize = 0;
-    while i < n {
+    for i in 0..n {
         if last < w[i * RECORD_SIZE + SEQ] {
             return i;
         }
-        i += 1;
     }
-    i
+    n
 }
 
 // Those of the first n records whose number is at most `last` move to the front, in their order; how many they are. The first `from` are
 // known to be among them.
 fn keep_front(w: &mut [u64; WORDS], n: usize, from: usize, last: u64) -> usize
-    requires { (length w.old ≡ array_size) × (n ≤ capacity) × (from ≤ n)
+    requires { (n ≤ capacity) × (from ≤ n)
         × (keep (up_to last) (recs w.old 0 from) ≡ recs w.old 0 from) }
     ensures count { result ≡ length (keep (up_to last) (recs w.old 0 n)) }
     ensures words { w.new ≡ record_words (keep (up_to last) (recs w.old 0 n)) ++ drop (result * record_size) w.old }
 {
     let mut m = from;
-    let mut i = from;
-    while i < n {
+    for i in from..n {
         let r = network_queue::record_at(w, i * RECORD_SIZE);
         if r.seq <= last {
             network_queue::put(w, m * RECORD_SIZE, r);
             m += 1;
         }
-        i += 1;
     }
     m
 }
 
 // The records numbered above `last` are dropped, and zeros stand behind the others.
 pub fn drop_above(w: &mut [u64; WORDS], n: usize, last: u64) -> usize
-    requires { (length w.old ≡ array_size) × (n ≤ capacity) }
+    requires { n ≤ capacity }
     ensures count { result ≡ length (keep (up_to last) (recs w.old 0 n)) }
     ensures words { w.new ≡ record_words (keep (up_to last) (recs w.old 0 n))
         ++ (replicate ((n - result) * record_size) 0 ++ drop (n * record_size) w.old) }

@@ -1,33 +1,37 @@
--- The call's answer and words, by where it ends: at its options, at its kind, or at its decision. Assumes nothing.
+-- The call's answer, by where it ends: at its options, at its kind, or at its decision. Assumes nothing.
 use Prim.Native.Nat.{ℕ, ◌≤◌, ◌<◌}
 use mathlib.Core.Path.{◌≡◌, refl, sym, ap, ◌∙◌}
-use mathlib.Core.Bool.{Bool, true, false, cond}
+use mathlib.Core.Bool.{Bool, true, false}
 use mathlib.Core.List.{List, [], ◌∷◌}
 use native.Mathlib.Omega.{arith}
 use borrow.Author.Tests.{le-leb, lt-leb}
 use lib.Dec.{leb}
+use Rattle.std.specs.Prelude.{Result, Ok, Err}
 use Rattle.basis.proofs.Laws.{both}
 use Rattle.chance.specs.Probability.{good_word}
-use Rattle.nights.specs.Net.{Options, last_kind, good_options}
+use Rattle.nights.specs.Net.{Options, Fate, last_kind, good_options}
 use Rattle.nights.specs.Draws.{Decided, decided}
-use Rattle.nights.specs.Tests.{Answer, done, refused, Test, verdict, if_done, option_tests, allowed, refusal}
+use Rattle.nights.specs.Tests.{done, refused, Test, verdict, option_tests, allowed, refusal}
+use Rattle.network_options.specs.declared.Refusal.{Refusal}
 use Rattle.network_options.proofs.OptionForms.{good_done}
-use Rattle.network_layout.specs.Layout.{answer_code}
-use Rattle.network_fate.specs.Fates.{fate_told, told_number, told_words, fate_answered, fate_number, fate_words}
+use Rattle.network_fates.specs.declared.Decision.{Decision}
+use Rattle.network_fates.specs.declared.Decision.TheVariants.{Lost, Once, Twice}
+use Rattle.network_fates.specs.Answers.{decided_by, decision_of}
+use Rattle.network_fate.specs.Fates.{fate_answered, Decides}
 
--- the tests of options before others: a number that is not 0 answers, and 0 leaves it to the others
+-- the tests of options before others: a refusal answers, and what passes them is left to the others
 module _ (o : Options) (more : List Test) where
-  stops : (k : ℕ) → k ≡ answer_code (verdict (option_tests o [])) → (k ≡ 0 → ⊥) → verdict (option_tests o more) ≡ refused k
+  stops : (k : ℕ) → refused k ≡ verdict (option_tests o []) → verdict (option_tests o more) ≡ refused k
   unfolding verdict
-  stops k e h = go (good_word o.loss) (good_word o.replay) (leb o.least o.mean) e
+  stops k e = go (good_word o.loss) (good_word o.replay) (leb o.least o.mean) e
     where
       go : (a b c : Bool)
-          → k ≡ answer_code (verdict (record { passes = a; number = 20 } ∷ record { passes = b; number = 21 } ∷ record { passes = c; number = 22 } ∷ []))
+          → refused k ≡ verdict (record { passes = a; number = 20 } ∷ record { passes = b; number = 21 } ∷ record { passes = c; number = 22 } ∷ [])
           → verdict (record { passes = a; number = 20 } ∷ record { passes = b; number = 21 } ∷ record { passes = c; number = 22 } ∷ more) ≡ refused k
-      go true true true q = absurd (h q)
-      go true true false q = ap refused (sym q)
-      go true false c q = ap refused (sym q)
-      go false b c q = ap refused (sym q)
+      go true true true q = let z : ◌≡◌ {A = ℕ} 0 1 = cc in absurd (omega arith)
+      go true true false q = sym q
+      go true false c q = sym q
+      go false b c q = sym q
 
   goes_on : verdict (option_tests o []) ≡ done → verdict (option_tests o more) ≡ verdict more
   unfolding verdict good_options
@@ -36,55 +40,35 @@ module _ (o : Options) (more : List Test) where
       let b = both (good_word o.replay) _ a.1 in
       rw (a.0, b.0, b.1)
 
--- the options' number is 0 for good ones alone
-pub number_good : (o : Options) → 0 ≡ answer_code (verdict (option_tests o [])) → verdict (option_tests o []) ≡ done
-unfolding verdict
-number_good o e = go (good_word o.loss) (good_word o.replay) (leb o.least o.mean) e
-  where
-    go : (a b c : Bool)
-        → 0 ≡ answer_code (verdict (record { passes = a; number = 20 } ∷ record { passes = b; number = 21 } ∷ record { passes = c; number = 22 } ∷ []))
-        → verdict (record { passes = a; number = 20 } ∷ record { passes = b; number = 21 } ∷ record { passes = c; number = 22 } ∷ []) ≡ done
-    go true true true h = refl
-    go true true false h = absurd (omega arith)
-    go true false c h = absurd (omega arith)
-    go false b c h = absurd (omega arith)
+-- what is decided is no refusal
+accepts : (d : Decision) → allowed (decided_by d).fate ≡ true
+accepts (Lost d) = refl
+accepts (Once t l d x) = refl
+accepts (Twice c t k l d x) = refl
 
-pub record Ended (o : Options) (now kind : ℕ) (draws extras told : List ℕ) (number : ℕ) (left : List ℕ) : Type 0 where
-  pub answer : number ≡ fate_number o now kind draws extras
-  pub words : left ≡ fate_words o now kind draws extras told
-
-module _ (o : Options) (now kind : ℕ) (draws extras told : List ℕ) where
+module _ (o : Options) (now kind : ℕ) (draws extras : List ℕ) where
   -- the tests behind those of the options
-  abbrev others : List Test
-  others =
-      record { passes = leb kind last_kind; number = 24 }
-      ∷ record { passes = allowed (decided o now kind draws extras).fate; number = refusal (decided o now kind draws extras).fate }
-      ∷ []
+  abbrev others : Fate → List Test
+  others f = record { passes = leb kind last_kind; number = 24 } ∷ record { passes = allowed f; number = refusal f } ∷ []
 
-  ended_refused : (k : ℕ) → fate_answered o now kind draws extras ≡ refused k → Ended o now kind draws extras told k told
-  unfolding fate_number fate_words if_done
-  ended_refused k e = record { answer = rw e; words = rw e }
+  abbrev here : List Test
+  here = others (decided o now kind draws extras).fate
 
-  pub bad_options : (k : ℕ) → k ≡ answer_code (verdict (option_tests o [])) → (k ≡ 0 → ⊥) → Ended o now kind draws extras told k told
-  bad_options k e h = ended_refused k (stops o others k e h)
+  pub bad_options : (k : ℕ) → refused k ≡ verdict (option_tests o []) → fate_answered o now kind draws extras ≡ refused k
+  bad_options k e = stops o here k e
 
   module _ (g : verdict (option_tests o []) ≡ done) where
-    pub bad_kind : last_kind < kind → Ended o now kind draws extras told 24 told
+    pub bad_kind : last_kind < kind → fate_answered o now kind draws extras ≡ refused 24
     unfolding verdict
-    bad_kind h =
-        let z : verdict others ≡ refused 24 = rw (lt-leb kind last_kind h) in ended_refused 24 (goes_on o others g ∙ z)
+    bad_kind h = let z : verdict here ≡ refused 24 = rw (lt-leb kind last_kind h) in goes_on o here g ∙ z
 
-    pub decided_so : kind ≤ last_kind → (d : Decided) → d ≡ decided o now kind draws extras → (k : ℕ) (w : List ℕ)
-        → k ≡ told_number d → w ≡ told_words d told → Ended o now kind draws extras told k w
-    unfolding told_number told_words fate_number fate_words verdict
-    decided_so h d e k w p q =
-        let y : verdict others ≡ verdict (record { passes = allowed d.fate; number = refusal d.fate } ∷ []) =
-        rw (le-leb kind last_kind h) (ap (λ (x : Decided). cond (allowed x.fate) done (refused (refusal x.fate))) (sym e)) in
-        let z : fate_answered o now kind draws extras
-        ≡ verdict (record { passes = allowed d.fate; number = refusal d.fate } ∷ []) =
-        goes_on o others g ∙ y in
-        record {
-          answer = p ∙ ap answer_code (sym z);
-          words = q ∙ (ap (λ (x : Decided). if_done (verdict (record { passes = allowed d.fate; number = refusal d.fate } ∷ [])) (fate_told x) told) e
-              ∙ ap (λ (a : Answer). if_done a (fate_told (decided o now kind draws extras)) told) (sym z));
-        }
+    pub decides : kind ≤ last_kind → (r : Result Decision Refusal) → decision_of r ≡ decided o now kind draws extras
+        → Decides r o now kind draws extras
+    unfolding verdict
+    decides h (Ok d) e =
+        let y : verdict here ≡ verdict (others (decided_by d).fate) = ap (λ (x : Decided). verdict (others x.fate)) (sym e) in
+        let z : verdict (others (decided_by d).fate) ≡ done = rw (le-leb kind last_kind h, accepts d) in
+        (goes_on o here g ∙ (y ∙ z), e)
+    decides h (Err r) e =
+        let y : verdict here ≡ verdict (others (decision_of (Err r)).fate) = ap (λ (x : Decided). verdict (others x.fate)) (sym e) in
+        goes_on o here g ∙ (y ∙ rw (le-leb kind last_kind h))

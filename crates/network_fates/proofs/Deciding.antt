@@ -10,8 +10,9 @@ use lib.Ieee.{binary64, to_bits, of_bits}
 use lib.Ieee.Bits.{of_bits-to_bits}
 use lib.ListN.{length}
 use Rattle.chance.specs.declared.Draw.{Draw}
+use Rattle.std.specs.Prelude.{Option, Some}
 use Rattle.chance.specs.Draw.{gen_bool_in_send}
-use Rattle.nights.specs.Net.{Options, once, twice}
+use Rattle.nights.specs.Net.{Options, lose, once, twice}
 use Rattle.nights.specs.Draws.{Decided, refusing, is_faulted, extras_for, extra_at, due_at, is_tick, is_late, alone, both, after_replay, after_loss, decided}
 use Rattle.network_options.specs.declared.NetworkOptions.{NetworkOptions}
 use Rattle.network_options.specs.Options.{plain_options}
@@ -99,10 +100,31 @@ one_of_two o n h = go (eqb o.mean o.least) h
     go true k = k
     go false k = omega arith
 
+-- ---- a draw that answered yes, and one that answered no
+
+module _ (o : Options) (now : ℕ) (extras : List ℕ) (d : Draw) where
+  pub replay_yes : d.yes ≡ true → both o now extras d.next ≡ after_replay o now extras (Some d)
+  unfolding after_replay
+  replay_yes e = rw e
+
+  pub replay_no : d.yes ≡ false → alone o now extras d.next ≡ after_replay o now extras (Some d)
+  unfolding after_replay
+  replay_no e = rw e
+
+  pub loss_yes : (draws : List ℕ) → d.yes ≡ true
+      → ◌≡◌ {A = Decided} (record { fate = lose; draws = d.next; extras = 0 }) (after_loss o now draws extras (Some d))
+  unfolding after_loss
+  loss_yes draws e = rw e
+
+  pub loss_no : (draws : List ℕ) → d.yes ≡ false
+      → after_replay o now extras (gen_bool_in_send (of_bits binary64 o.replay) draws d.next) ≡ after_loss o now draws extras (Some d)
+  unfolding after_loss
+  loss_no draws e = rw e
+
 -- ---- the draws, on the probabilities that the words stand for
 
 module _ (o : NetworkOptions) (held : Held o) (now : ℕ) (draws extras : List ℕ) where
-  pub loss_drawn : (kind : ℕ) (d : Draw) → is_faulted (plain_options o) kind ≡ true
+  pub loss_drawn : (kind : ℕ) (d : Option Draw) → is_faulted (plain_options o) kind ≡ true
       → gen_bool_in_send o.packet_loss_probability draws 0 ≡ d
       → decided (plain_options o) now kind draws extras ≡ after_loss (plain_options o) now draws extras d
   unfolding decided

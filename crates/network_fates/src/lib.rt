@@ -2,26 +2,22 @@
 #![tactic(auto)]
 
 ghost use Rattle.std.specs.Prelude.{◌≡◌, true, ◌+◌, ◌≤◌, T, length};
+ghost use Rattle.basis.specs.Basis.{bit};
 ghost use Rattle.nights.specs.Net.{good_options, dues, lost_by, replayed_by, delayed_by};
 ghost use Rattle.nights.specs.Draws.{extras_for, extra_at, alone, both, after_replay, decided, is_faulted};
 ghost use Rattle.chance.specs.Probability.{good_probability};
 ghost use Rattle.chance.specs.Draw.{gen_bool_in_send};
 ghost use Rattle.network_options.specs.Options.{plain_options};
-ghost use Rattle.network_options.specs.Answers.{settled_of};
-ghost use Rattle.network_fates.specs.Answers.{decision_of, tick_of, tick_from};
+ghost use Rattle.network_fates.specs.Answers.{decided_by, decision_of, tick_of, tick_from};
 
 use network_options::{NetworkOptions, Refusal};
 
 // The kind of a message that a client sends.
 const REQUEST: u64 = 0;
 
-// The largest tick.
-const LAST_TICK: u64 = 0xffff_ffff_ffff_ffff;
-
 // What a message's draws and extras decide, with the words used.
 #[derive(Clone, Copy)]
 pub enum Decision {
-    Refused(Refusal),
     Lost {
         draws: usize,
     },
@@ -43,27 +39,13 @@ pub enum Decision {
     },
 }
 
-// A tick, or one past the last.
-#[derive(Clone, Copy)]
-enum Tick {
-    At(u64),
-    Past,
-}
-
 // ---- The fate of a message
 
-// A due tick, over whole numbers.
-fn due_tick(now: u64, min: u64, extra: u64) -> Tick
+// A due tick, over whole numbers: none past the last tick.
+fn due_tick(now: u64, min: u64, extra: u64) -> Option<u64>
     ensures { tick_of result ≡ tick_from (now + min + extra) }
 {
-    if LAST_TICK - now < min {
-        return Tick::Past;
-    }
-    let least = now + min;
-    if LAST_TICK - least < extra {
-        return Tick::Past;
-    }
-    Tick::At(least + extra)
+    now.checked_add(min)?.checked_add(extra)
 }
 
 // How many extras so many copies use: none where the delay is fixed.
@@ -88,71 +70,87 @@ fn extra_at(options: NetworkOptions, extras: &[u64], i: usize) -> u64
 }
 
 // The original alone, after so many draws.
-fn once(options: NetworkOptions, now: u64, extras: &[u64], draws: usize) -> Decision
+fn once(
+    options: NetworkOptions,
+    now: u64,
+    extras: &[u64],
+    draws: usize,
+) -> Result<Decision, Refusal>
     ensures { decision_of result ≡ alone (plain_options options) now extras.now draws }
 {
     let used = extras_for(options, 1);
     if extras.len() < used {
-        return Decision::Refused(Refusal::ShortExtras);
+        return Err(Refusal::ShortExtras);
     }
     let extra = extra_at(options, extras, 0);
-    let Tick::At(due) = due_tick(now, options.one_way_delay_min, extra) else {
-        return Decision::Refused(Refusal::LateTick);
+    let Some(due) = due_tick(now, options.one_way_delay_min, extra) else {
+        return Err(Refusal::LateTick);
     };
-    Decision::Once {
-        due: due,
+    Ok(Decision::Once {
+        due,
         late: extra != 0,
-        draws: draws,
+        draws,
         extras: used,
-    }
+    })
 }
 
 // The copy before the original, after so many draws.
-fn twice(options: NetworkOptions, now: u64, extras: &[u64], draws: usize) -> Decision
+fn twice(
+    options: NetworkOptions,
+    now: u64,
+    extras: &[u64],
+    draws: usize,
+) -> Result<Decision, Refusal>
     ensures { decision_of result ≡ both (plain_options options) now extras.now draws }
 {
     let used = extras_for(options, 2);
     if extras.len() < used {
-        return Decision::Refused(Refusal::ShortExtras);
+        return Err(Refusal::ShortExtras);
     }
     let copy_extra = extra_at(options, extras, 0);
     let extra = extra_at(options, extras, 1);
-    let Tick::At(copy) = due_tick(now, options.one_way_delay_min, copy_extra) else {
-        return Decision::Refused(Refusal::LateTick);
+    let Some(copy) = due_tick(now, options.one_way_delay_min, copy_extra) else {
+        return Err(Refusal::LateTick);
     };
-    let Tick::At(original) = due_tick(now, options.one_way_delay_min, extra) else {
-        return Decision::Refused(Refusal::LateTick);
+    let Some(original) = due_tick(now, options.one_way_delay_min, extra) else {
+        return Err(Refusal::LateTick);
     };
-    Decision::Twice {
-        copy: copy,
-        original: original,
+    Ok(Decision::Twice {
+        copy,
+        original,
         copy_late: copy_extra != 0,
         original_late: extra != 0,
-        draws: draws,
+        draws,
         extras: used,
-    }
+    })
 }
 
 // After the loss draw answered no: the replay draw, at the place of the next word.
-fn kept(options: NetworkOptions, now: u64, draws: &[u64], place: usize, extras: &[u64]) -> Decision
+fn kept(
+    options: NetworkOptions,
+    now: u64,
+    draws: &[u64],
+    place: usize,
+    extras: &[u64],
+) -> Result<Decision, Refusal>
     requires { T (good_probability options.packet_replay_probability) }
     ensures { decision_of result ≡ after_replay (plain_options options) now extras.now (gen_bool_in_send options.packet_replay_probability draws.now place) }
 {
-    match chance::gen_bool_in_send(options.packet_replay_probability, draws, place) {
-        chance::Draw::Yes(next) => twice(options, now, extras, next),
-        chance::Draw::No(next) => once(options, now, extras, next),
-        chance::Draw::Short => Decision::Refused(Refusal::ShortDraws),
+    let Some(draw) = chance::gen_bool_in_send(options.packet_replay_probability, draws, place)
+    else {
+        return Err(Refusal::ShortDraws);
+    };
+    if draw.yes {
+        return twice(options, now, extras, draw.next);
     }
+    once(options, now, extras, draw.next)
 }
 
 // Whether faults apply to a message of a kind.
 fn faulted(options: NetworkOptions, kind: u64) -> bool
     ensures { result ≡ is_faulted (plain_options options) kind }
 {
-    if kind != REQUEST {
-        return true;
-    }
-    options.fault_client_messages
+    kind != REQUEST || options.fault_client_messages
 }
 
 // The fate of a message, from its lent draws and extras.
@@ -162,116 +160,90 @@ pub fn decide(
     kind: u64,
     draws: &[u64],
     extras: &[u64],
-) -> Decision
+) -> Result<Decision, Refusal>
     requires { good_options (plain_options options) ≡ true }
     ensures { decision_of result ≡ decided (plain_options options) now kind draws.now extras.now }
 {
     if !faulted(options, kind) {
-        return Decision::Once {
+        return Ok(Decision::Once {
             due: now,
             late: false,
             draws: 0,
             extras: 0,
-        };
+        });
     }
-    match chance::gen_bool_in_send(options.packet_loss_probability, draws, 0) {
-        chance::Draw::Yes(next) => Decision::Lost { draws: next },
-        chance::Draw::No(next) => kept(options, now, draws, next, extras),
-        chance::Draw::Short => Decision::Refused(Refusal::ShortDraws),
+    let Some(draw) = chance::gen_bool_in_send(options.packet_loss_probability, draws, 0) else {
+        return Err(Refusal::ShortDraws);
+    };
+    if draw.yes {
+        return Ok(Decision::Lost { draws: draw.next });
     }
+    kept(options, now, draws, draw.next, extras)
 }
 
-// ---- What a fate adds
+// ---- What a decision is, and what it adds
 
-// How many copies a fate queues, and what it adds to the counters.
-pub fn copies_by(decision: Decision) -> usize
-    ensures { result ≡ length (dues (decision_of decision).fate) }
-{
-    match decision {
-        Decision::Refused(_) => 0,
-        Decision::Lost { draws: _ } => 0,
-        Decision::Once {
-            due: _,
-            late: _,
-            draws: _,
-            extras: _,
-        } => 1,
-        Decision::Twice {
-            copy: _,
-            original: _,
-            copy_late: _,
-            original_late: _,
-            draws: _,
-            extras: _,
-        } => 2,
+impl Decision {
+    // Whether the message is lost, and whether it is replayed.
+    #[tactic(auto, unfolding(nights::specs::Net::lost_by))]
+    pub fn lost(self) -> bool
+        ensures { bit result ≡ lost_by (decided_by self).fate }
+    {
+        matches!(self, Decision::Lost { .. })
     }
-}
 
-pub fn lost_by(decision: Decision) -> u64
-    ensures { result ≡ lost_by (decision_of decision).fate }
-{
-    match decision {
-        Decision::Refused(_) => 0,
-        Decision::Lost { draws: _ } => 1,
-        Decision::Once {
-            due: _,
-            late: _,
-            draws: _,
-            extras: _,
-        } => 0,
-        Decision::Twice {
-            copy: _,
-            original: _,
-            copy_late: _,
-            original_late: _,
-            draws: _,
-            extras: _,
-        } => 0,
+    #[tactic(auto, unfolding(nights::specs::Net::replayed_by))]
+    pub fn replayed(self) -> bool
+        ensures { bit result ≡ replayed_by (decided_by self).fate }
+    {
+        matches!(self, Decision::Twice { .. })
     }
-}
 
-pub fn replayed_by(decision: Decision) -> u64
-    ensures { result ≡ replayed_by (decision_of decision).fate }
-{
-    match decision {
-        Decision::Refused(_) => 0,
-        Decision::Lost { draws: _ } => 0,
-        Decision::Once {
-            due: _,
-            late: _,
-            draws: _,
-            extras: _,
-        } => 0,
-        Decision::Twice {
-            copy: _,
-            original: _,
-            copy_late: _,
-            original_late: _,
-            draws: _,
-            extras: _,
-        } => 1,
+    // How many copies are queued, and how many of them are delayed beyond the minimum.
+    #[tactic(auto, unfolding(nights::specs::Net::dues))]
+    pub fn copies(self) -> usize
+        ensures { result ≡ length (dues (decided_by self).fate) }
+    {
+        match self {
+            Decision::Lost { .. } => 0,
+            Decision::Once { .. } => 1,
+            Decision::Twice { .. } => 2,
+        }
     }
-}
 
-pub fn delayed_by(decision: Decision) -> u64
-    ensures { result ≡ delayed_by (decision_of decision).fate }
-{
-    match decision {
-        Decision::Refused(_) => 0,
-        Decision::Lost { draws: _ } => 0,
-        Decision::Once {
-            due: _,
-            late,
-            draws: _,
-            extras: _,
-        } => basis::flag_word(late),
-        Decision::Twice {
-            copy: _,
-            original: _,
-            copy_late,
-            original_late,
-            draws: _,
-            extras: _,
-        } => basis::flag_word(copy_late) + basis::flag_word(original_late),
+    #[tactic(auto, unfolding(nights::specs::Net::delayed_by))]
+    pub fn delayed(self) -> u64
+        ensures { result ≡ delayed_by (decided_by self).fate }
+    {
+        match self {
+            Decision::Lost { .. } => 0,
+            Decision::Once { late, .. } => u64::from(late),
+            Decision::Twice {
+                copy_late,
+                original_late,
+                ..
+            } => u64::from(copy_late) + u64::from(original_late),
+        }
+    }
+
+    // How many draws and how many extras were used, from the front of their lists.
+    pub fn draws(self) -> usize
+        ensures { result ≡ (decided_by self).draws }
+    {
+        match self {
+            Decision::Lost { draws } => draws,
+            Decision::Once { draws, .. } => draws,
+            Decision::Twice { draws, .. } => draws,
+        }
+    }
+
+    pub fn extras(self) -> usize
+        ensures { result ≡ (decided_by self).extras }
+    {
+        match self {
+            Decision::Lost { .. } => 0,
+            Decision::Once { extras, .. } => extras,
+            Decision::Twice { extras, .. } => extras,
+        }
     }
 }

@@ -2,10 +2,10 @@
 // good, in order, none numbered twice, with zeros behind them.
 #![tactic(auto)]
 
-ghost use Rattle.std.specs.Prelude.{◌≡◌, length};
-ghost use Rattle.nights.specs.Net.{good_counts};
-ghost use Rattle.network_queue.specs.Packed.{array_size};
-ghost use Rattle.network_form.specs.Forms.{formed_in};
+ghost use Rattle.std.specs.Prelude.{◌≡◌};
+ghost use Rattle.nights.specs.Net.{fresh};
+ghost use Rattle.network_options.specs.Options.{plain_options};
+ghost use Rattle.network_form.specs.Forms.{head_of, formed_in, counts_good};
 
 use network_options::NetworkOptions;
 use network_queue::{CAPACITY, WORDS};
@@ -29,63 +29,51 @@ pub struct Head {
     pub delayed: u64,
 }
 
-// The counters, over whole numbers. The sums are taken once their parts are known to be small, so none wraps.
-pub fn counts_good(
-    pending: usize,
-    seq: u64,
-    sent: u64,
-    delivered: u64,
-    lost: u64,
-    replayed: u64,
-    delayed: u64,
-) -> bool
-    ensures { result ≡ good_counts pending seq sent delivered lost replayed delayed }
-{
-    if CAPACITY < pending {
-        return false;
+impl Head {
+    // That of a fresh network: nothing in flight, nothing counted.
+    pub fn empty(options: NetworkOptions) -> Head
+        ensures { result ≡ head_of (fresh (plain_options options)) }
+    {
+        Head {
+            options,
+            pending: 0,
+            seq: 0,
+            sent: 0,
+            delivered: 0,
+            lost: 0,
+            replayed: 0,
+            delayed: 0,
+        }
     }
-    if SENT_LIMIT < sent {
-        return false;
+
+    // The counters, over whole numbers. The sums are taken once their parts are known to be small, so none wraps.
+    pub fn counts_good(self) -> bool
+        ensures { result ≡ counts_good self }
+    {
+        if CAPACITY < self.pending || SENT_LIMIT < self.sent {
+            return false;
+        }
+        if self.sent < self.lost || self.sent < self.replayed {
+            return false;
+        }
+        let made = self.sent + self.replayed;
+        if made < self.delivered {
+            return false;
+        }
+        let held = self.pending as u64;
+        made == self.delivered + self.lost + held
+            && self.seq == self.delivered + held
+            && self.delayed <= self.seq
     }
-    if sent < lost {
-        return false;
-    }
-    if sent < replayed {
-        return false;
-    }
-    let made = sent + replayed;
-    if made < delivered {
-        return false;
-    }
-    let held = pending as u64;
-    if made != delivered + lost + held {
-        return false;
-    }
-    if seq != delivered + held {
-        return false;
-    }
-    delayed <= seq
 }
 
 // Whether a network is well formed: its words lent, the rest of it by value.
+// Kept: the words and the head stay two parameters, here and in the calls above. In a struct that holds the loan each clause would name both
+// by a path, and the head goes from call to call by value while the words stay where the host has them.
 pub fn formed(w: &[u64; WORDS], head: Head) -> bool
-    requires { length w.now ≡ array_size }
     ensures { result ≡ formed_in head w.now }
 {
-    let options = head.options;
-    if !options.good() {
-        return false;
-    }
-    if !counts_good(
-        head.pending,
-        head.seq,
-        head.sent,
-        head.delivered,
-        head.lost,
-        head.replayed,
-        head.delayed,
-    ) {
-        return false;
-    }
-    network_records::records_good(w, head.pending, head.seq)
+    head.options.good()
+        && head.counts_good()
+        && network_records::records_good(w, head.pending, head.seq)
 }

@@ -1,14 +1,15 @@
 -- A head's words: which of the three tests fails, and what reading them gives. Assumes nothing.
-use mathlib.Core.Path.{◌≡◌, refl, sym, ap, ◌∙◌}
+use mathlib.Core.Path.{◌≡◌, refl, sym, ◌∙◌}
 use mathlib.Core.Bool.{Bool, true, false}
 use mathlib.Core.List.{List}
 use Prim.Native.Nat.{ℕ, ◌≤◌, ◌<◌}
 use borrow.Author.Tests.{le-leb, lt-leb}
 use lib.ListN.{get_or}
+use Rattle.std.specs.Prelude.{Option, Some, None}
 use Rattle.chance.specs.Probability.{good_word}
 use Rattle.nights.specs.Tests.{Answer, refused}
-use Rattle.network_layout.specs.declared.Loaded.{Loaded}
-use Rattle.network_layout.specs.Layout.{head_fits, head_in, loaded, unloaded, if_head}
+use Rattle.network_form.specs.declared.Head.{Head}
+use Rattle.network_layout.specs.Layout.{head_fits, head_in, loaded, if_head}
 
 module _ (w : List ℕ) where
   -- ---- the tests, one after the other
@@ -33,25 +34,28 @@ module _ (w : List ℕ) where
 
   -- ---- what is read
 
-  pub not_loaded : head_fits w ≡ false → unloaded ≡ loaded w
+  pub not_loaded : head_fits w ≡ false → None ≡ loaded w
   unfolding loaded
   not_loaded e = rw e
 
-  pub is_loaded : head_fits w ≡ true → ◌≡◌ {A = Loaded} (record { fits = true; head = head_in w }) (loaded w)
+  pub is_loaded : head_fits w ≡ true → Some (head_in w) ≡ loaded w
   unfolding loaded
   is_loaded e = rw e
 
-  -- words that were read fit, or not, as they say, and those that fit are their head's
-  pub told_fits : (l : Loaded) → l ≡ loaded w → (b : Bool) → l.fits ≡ b → head_fits w ≡ b
-  unfolding loaded
-  told_fits l e b f = sym (says (head_fits w) refl) ∙ (ap (λ (x : Loaded). x.fits) (sym e) ∙ f)
+  -- words that are read fit, and are their head's; and no others
+  pub unfit : None ≡ loaded w → head_fits w ≡ false
+  unfit e = go (head_fits w) refl
     where
-      says : (b : Bool) → head_fits w ≡ b → (loaded w).fits ≡ head_fits w
-      says true p = rw p
-      says false p = rw p
+      go : (b : Bool) → head_fits w ≡ b → head_fits w ≡ false
+      go true f = let p : ◌≡◌ {A = Option Head} None (Some (head_in w)) = e ∙ sym (is_loaded f) in absurd cc
+      go false f = f
 
-  pub head_read : (l : Loaded) → l ≡ loaded w → head_fits w ≡ true → l.head ≡ head_in w
-  head_read l e f = ap (λ (x : Loaded). x.head) (e ∙ sym (is_loaded f))
+  pub head_read : (h : Head) → Some h ≡ loaded w → (head_fits w ≡ true) × (h ≡ head_in w)
+  head_read h e = go (head_fits w) refl
+    where
+      go : (b : Bool) → head_fits w ≡ b → (head_fits w ≡ true) × (h ≡ head_in w)
+      go true f = let p : ◌≡◌ {A = Option Head} (Some h) (Some (head_in w)) = e ∙ sym (is_loaded f) in (f, cc)
+      go false f = let p : ◌≡◌ {A = Option Head} (Some h) None = e ∙ sym (not_loaded f) in absurd cc
 
   -- ---- an answer over words
 

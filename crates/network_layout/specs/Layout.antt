@@ -1,13 +1,15 @@
 -- The 12 words of a network's head, as the host lends them. Assumes nothing.
-use Rattle.std.specs.Prelude.{ℕ, Bool, true, false, cond, not, ◌&&◌, List, [], ◌∷◌, leb, eqb, get_or}
+use Rattle.std.specs.Prelude.{ℕ, Bool, cond, not, ◌&&◌, List, [], ◌∷◌, leb, eqb, get_or, Option, Some, None, Result, Ok, Err}
 use Rattle.chance.specs.Probability.{good_word}
 use Rattle.basis.specs.Basis.{bit}
-use Rattle.nights.specs.Net.{Options, fresh}
+use Rattle.nights.specs.Net.{Options}
 use Rattle.nights.specs.Tests.{Answer, done, refused}
-use Rattle.network_options.specs.Options.{plain_options, struct_options, perfect_options}
+use Rattle.network_options.specs.declared.NetworkOptions.{NetworkOptions}
+use Rattle.network_options.specs.declared.Refusal.{Refusal}
+use Rattle.network_options.specs.Options.{plain_options, struct_options}
+use Rattle.network_options.specs.Answers.{refusal_number}
 use Rattle.network_form.specs.declared.Head.{Head}
-use Rattle.network_form.specs.Forms.{head_of}
-use Rattle.network_layout.specs.declared.Loaded.{Loaded}
+use Rattle.network_layout.specs.declared.OptionWords.{OptionWords}
 
 -- how many words a head has
 abbrev pub head_size : ℕ
@@ -22,6 +24,14 @@ options_in w =
 abbrev pub options_from : (loss replay min mean flag : ℕ) → Options
 options_from loss replay min mean flag =
     record { loss = loss; replay = replay; least = min; mean = mean; faulted = not (eqb flag 0) }
+
+-- the code's own struct of them, and what their test answers
+abbrev pub options_of : OptionWords → Options
+options_of o = options_from o.loss o.replay o.min o.mean o.flag
+
+abbrev pub tested_of : Result NetworkOptions Refusal → Answer
+tested_of (Ok o) = done
+tested_of (Err r) = refused (refusal_number r)
 
 -- the probabilities' words are good, and the flag is 0 or 1
 unfoldable pub head_fits : List ℕ → Bool
@@ -58,9 +68,6 @@ answer_code (refused k) = k
 unfoldable pub if_head : List ℕ → Answer → Answer
 if_head h a = cond (head_fits h) a (refused 23)
 
--- INSIDE: what reading a head gives; where it does not fit, that of a fresh network of the perfect options
-abbrev pub unloaded : Loaded
-unloaded = record { fits = false; head = head_of (fresh perfect_options) }
-
-unfoldable pub loaded : List ℕ → Loaded
-loaded w = cond (head_fits w) (record { fits = true; head = head_in w }) unloaded
+-- INSIDE: what reading a head gives
+unfoldable pub loaded : List ℕ → Option Head
+loaded w = cond (head_fits w) (Some (head_in w)) None

@@ -2,16 +2,17 @@
 // mean, whether client messages are faulted (0 or 1), pending, seq, sent, delivered, lost, replayed, delayed.
 #![tactic(auto)]
 
-ghost use Rattle.std.specs.Prelude.{◌≡◌, true, [], ℕ};
+ghost use Rattle.std.specs.Prelude.{◌≡◌, true, [], IfOk};
 ghost use Rattle.nights.specs.Net.{good_options};
 ghost use Rattle.nights.specs.Tests.{verdict, option_tests};
 ghost use Rattle.network_options.specs.Options.{plain_options};
-ghost use Rattle.network_layout.specs.Layout.{head_words, loaded, options_from, unloaded, answer_code};
+ghost use Rattle.network_options.specs.Answers.{settled_of};
+ghost use Rattle.network_layout.specs.Layout.{head_words, loaded, options_of, tested_of, answer_code};
 
 use network_form::Head;
-use network_options::NetworkOptions;
+use network_options::{NetworkOptions, Refusal};
 
-// The words of a head, and where it has each.
+// The words of a head, and where it has its numbers.
 pub const HEAD_WORDS: usize = 12;
 
 const LOSS: usize = 0;
@@ -38,67 +39,67 @@ pub const REPLAYED: usize = 10;
 
 pub const DELAYED: usize = 11;
 
-// The numbers of the refusals that words alone can meet.
-const BAD_LOSS: u64 = 20;
-
-const BAD_REPLAY: u64 = 21;
-
-const MIN_OVER_MEAN: u64 = 22;
-
-pub const ILL_FORMED: u64 = 23;
-
-// A head that was read: words that are no good probability, or a flag that is neither 0 nor 1, are none.
+// Options handed in as words: the bits of the loss and of the replay probability, minimum and mean, and a flag that is no for 0 and yes
+// otherwise.
 #[derive(Clone, Copy)]
-pub struct Loaded {
-    pub fits: bool,
-    pub head: Head,
+pub struct OptionWords {
+    pub loss: u64,
+    pub replay: u64,
+    pub min: u64,
+    pub mean: u64,
+    pub flag: u64,
 }
 
-// A head of zeros and the perfect options.
-fn no_head() -> Loaded
-    ensures { result ≡ unloaded }
-{
-    Loaded {
-        fits: false,
-        head: Head {
-            options: NetworkOptions::perfect(),
-            pending: 0,
-            seq: 0,
-            sent: 0,
-            delivered: 0,
-            lost: 0,
-            replayed: 0,
-            delayed: 0,
-        },
+impl OptionWords {
+    // The options that they are, if they pass the tests of options.
+    pub fn options(self) -> Result<NetworkOptions, Refusal>
+        ensures answer { tested_of result ≡ verdict (option_tests (options_of self) []) }
+        ensures options { IfOk result (λ o. plain_options o ≡ options_of self) }
+    {
+        if !chance::good_word(self.loss) {
+            return Err(Refusal::BadLoss);
+        }
+        if !chance::good_word(self.replay) {
+            return Err(Refusal::BadReplay);
+        }
+        if self.mean < self.min {
+            return Err(Refusal::MinOverMean);
+        }
+        Ok(NetworkOptions {
+            packet_loss_probability: chance::of_word(self.loss),
+            packet_replay_probability: chance::of_word(self.replay),
+            one_way_delay_min: self.min,
+            one_way_delay_mean: self.mean,
+            fault_client_messages: self.flag != 0,
+        })
     }
 }
 
-// The head of the words.
+// The head of the words: words that are no good probability, or a flag that is neither 0 nor 1, are none.
 #[tactic(auto, using(crate::proofs::Heads::no_loss, crate::proofs::Heads::no_replay, crate::proofs::Heads::no_flag, crate::proofs::Heads::fitting, crate::proofs::Heads::not_loaded, crate::proofs::Heads::is_loaded))]
-pub fn load(words: &[u64; HEAD_WORDS]) -> Loaded
+pub fn load(words: &[u64; HEAD_WORDS]) -> Option<Head>
     ensures { result ≡ loaded words.now }
 {
     let loss = words[LOSS];
     if !chance::good_word(loss) {
-        return no_head();
+        return None;
     }
     let replay = words[REPLAY];
     if !chance::good_word(replay) {
-        return no_head();
+        return None;
     }
     let flag = words[FLAG];
     if 1 < flag {
-        return no_head();
+        return None;
     }
-    let options = NetworkOptions {
-        packet_loss_probability: chance::of_word(loss),
-        packet_replay_probability: chance::of_word(replay),
-        one_way_delay_min: words[MIN],
-        one_way_delay_mean: words[MEAN],
-        fault_client_messages: flag == 1,
-    };
-    let head = Head {
-        options: options,
+    Some(Head {
+        options: NetworkOptions {
+            packet_loss_probability: chance::of_word(loss),
+            packet_replay_probability: chance::of_word(replay),
+            one_way_delay_min: words[MIN],
+            one_way_delay_mean: words[MEAN],
+            fault_client_messages: flag == 1,
+        },
         pending: words[PENDING] as usize,
         seq: words[SEQ],
         sent: words[SENT],
@@ -106,11 +107,7 @@ pub fn load(words: &[u64; HEAD_WORDS]) -> Loaded
         lost: words[LOST],
         replayed: words[REPLAYED],
         delayed: words[DELAYED],
-    };
-    Loaded {
-        fits: true,
-        head: head,
-    }
+    })
 }
 
 // The words of a head of good options.
@@ -124,7 +121,7 @@ pub fn store(head: Head, words: &mut [u64; HEAD_WORDS])
         chance::word_of(options.packet_replay_probability),
         options.one_way_delay_min,
         options.one_way_delay_mean,
-        basis::flag_word(options.fault_client_messages),
+        u64::from(options.fault_client_messages),
         head.pending as u64,
         head.seq,
         head.sent,
@@ -135,18 +132,12 @@ pub fn store(head: Head, words: &mut [u64; HEAD_WORDS])
     ];
 }
 
-// What options handed in as words answer.
-pub fn options_number(loss: u64, replay: u64, min: u64, mean: u64) -> u64
-    ensures { (flag : ℕ) → result ≡ answer_code (verdict (option_tests (options_from loss replay min mean flag) [])) }
+// An answer as a number: 0 if the call is done, and else the number of its refusal.
+pub fn answer_number(answer: Result<(), Refusal>) -> u64
+    ensures { result ≡ answer_code (settled_of answer) }
 {
-    if !chance::good_word(loss) {
-        return BAD_LOSS;
+    match answer {
+        Ok(()) => 0,
+        Err(refusal) => refusal.number(),
     }
-    if !chance::good_word(replay) {
-        return BAD_REPLAY;
-    }
-    if mean < min {
-        return MIN_OVER_MEAN;
-    }
-    0
 }

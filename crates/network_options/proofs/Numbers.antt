@@ -6,8 +6,7 @@ use native.Mathlib.Omega.{arith}
 use lib.Dec.{eqb}
 use Rattle.network_options.specs.declared.Refusal.{Refusal}
 use Rattle.network_options.specs.declared.Refusal.TheVariants.{BadLoss, BadReplay, MinOverMean, IllFormed, BadKindOrSort, SentLimit, ShortDraws, ShortExtras, LateTick, Full, ShortOutput, BadJournal, NoJournalRoom, TooFarBack}
-use Rattle.network_options.specs.declared.Settled.{Settled}
-use Rattle.network_options.specs.declared.Settled.TheVariants.{Done, Refused}
+use Rattle.std.specs.Prelude.{Result, Ok, Err}
 use Rattle.network_options.specs.Answers.{refusal_number, settled_of}
 
 -- no two refusals have one number
@@ -45,8 +44,8 @@ back TooFarBack = refl
 pub numbered_once : (r t : Refusal) → refusal_number r ≡ refusal_number t → r ≡ t
 numbered_once r t e = sym (back r) ∙ (ap refusal_of e ∙ back t)
 
-pub settled_once : (a b : Settled) → settled_of a ≡ settled_of b → a ≡ b
-settled_once Done Done e = refl
-settled_once Done (Refused r) e = let z : ◌≡◌ {A = ℕ} 0 1 = cc in absurd (omega arith)
-settled_once (Refused r) Done e = let z : ◌≡◌ {A = ℕ} 0 1 = cc in absurd (omega arith)
-settled_once (Refused r) (Refused t) e = let z : refusal_number r ≡ refusal_number t = cc in ap Refused (numbered_once r t z)
+pub settled_once : (a b : Result Unit Refusal) → settled_of a ≡ settled_of b → a ≡ b
+settled_once (Ok u) (Ok v) e = refl
+settled_once (Ok u) (Err r) e = let z : ◌≡◌ {A = ℕ} 0 1 = cc in absurd (omega arith)
+settled_once (Err r) (Ok u) e = let z : ◌≡◌ {A = ℕ} 0 1 = cc in absurd (omega arith)
+settled_once (Err r) (Err t) e = let z : refusal_number r ≡ refusal_number t = cc in ap Err (numbered_once r t z)

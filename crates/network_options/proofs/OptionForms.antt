@@ -11,6 +11,8 @@ use lib.Ieee.Bits.{of_bits-to_bits}
 use Rattle.chance.specs.Probability.{good_word, good_probability}
 use Rattle.nights.specs.Net.{Options, good_options}
 use Rattle.nights.specs.Tests.{done, refused, verdict, option_tests}
+use mir.Val.{bool_byte}
+use Rattle.basis.specs.Basis.{bit}
 use Rattle.basis.proofs.Laws.{both}
 use Rattle.network_options.specs.declared.NetworkOptions.{NetworkOptions}
 use Rattle.network_options.specs.Options.{plain_options, struct_options, perfect_options}
@@ -21,6 +23,11 @@ unfolding good_word good_probability to_bits is_nan
 good_word_is nan = refl
 good_word_is (inf s) = refl
 good_word_is (fin s m e) = refl
+
+-- a flag as a word is its bit
+pub flag_bit : (b : Bool) → bool_byte b ≡ bit b
+flag_bit true = refl
+flag_bit false = refl
 
 -- ---- good options, part by part
 

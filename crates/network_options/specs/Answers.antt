@@ -1,10 +1,8 @@
 -- What the code's answers tell, with each refusal by its number (RULES, "Refusal numbers"). Assumes nothing.
-use Rattle.std.specs.Prelude.{ℕ}
+use Rattle.std.specs.Prelude.{ℕ, Result, Ok, Err}
 use Rattle.nights.specs.Tests.{Answer, done, refused}
 use Rattle.network_options.specs.declared.Refusal.{Refusal}
 use Rattle.network_options.specs.declared.Refusal.TheVariants.{BadLoss, BadReplay, MinOverMean, IllFormed, BadKindOrSort, SentLimit, ShortDraws, ShortExtras, LateTick, Full, ShortOutput, BadJournal, NoJournalRoom, TooFarBack}
-use Rattle.network_options.specs.declared.Settled.{Settled}
-use Rattle.network_options.specs.declared.Settled.TheVariants.{Done, Refused}
 
 abbrev pub refusal_number : Refusal → ℕ
 refusal_number BadLoss = 20
@@ -23,6 +21,6 @@ refusal_number NoJournalRoom = 32
 refusal_number TooFarBack = 33
 
 -- a call that has nothing more to tell
-abbrev pub settled_of : Settled → Answer
-settled_of Done = done
-settled_of (Refused r) = refused (refusal_number r)
+abbrev pub settled_of : Result Unit Refusal → Answer
+settled_of (Ok done_with) = done
+settled_of (Err r) = refused (refusal_number r)

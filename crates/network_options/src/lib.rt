@@ -23,8 +23,8 @@ pub struct NetworkOptions {
     pub fault_client_messages: bool,
 }
 
-// Why a call is refused; `refusal_number` in specs/Answers gives each its number. The last three are for the calls of `journal`.
-#[derive(Clone, Copy)]
+// Why a call is refused; `refusal_number` in specs/Answers gives each its number. The last three are for the journaled calls.
+#[derive(Clone, Copy, Debug, PartialEq, Eq)]
 pub enum Refusal {
     BadLoss,
     BadReplay,
@@ -42,32 +42,27 @@ pub enum Refusal {
     TooFarBack,
 }
 
-// The answer of a call that has nothing more to tell.
-#[derive(Clone, Copy)]
-pub enum Settled {
-    Done,
-    Refused(Refusal),
-}
-
-// A refusal's number.
-pub fn number_of(refusal: Refusal) -> u64
-    ensures { result ≡ refusal_number refusal }
-{
-    match refusal {
-        Refusal::BadLoss => 20,
-        Refusal::BadReplay => 21,
-        Refusal::MinOverMean => 22,
-        Refusal::IllFormed => 23,
-        Refusal::BadKindOrSort => 24,
-        Refusal::SentLimit => 25,
-        Refusal::ShortDraws => 26,
-        Refusal::ShortExtras => 27,
-        Refusal::LateTick => 28,
-        Refusal::Full => 29,
-        Refusal::ShortOutput => 30,
-        Refusal::BadJournal => 31,
-        Refusal::NoJournalRoom => 32,
-        Refusal::TooFarBack => 33,
+impl Refusal {
+    // A refusal's number.
+    pub fn number(self) -> u64
+        ensures { result ≡ refusal_number self }
+    {
+        match self {
+            Refusal::BadLoss => 20,
+            Refusal::BadReplay => 21,
+            Refusal::MinOverMean => 22,
+            Refusal::IllFormed => 23,
+            Refusal::BadKindOrSort => 24,
+            Refusal::SentLimit => 25,
+            Refusal::ShortDraws => 26,
+            Refusal::ShortExtras => 27,
+            Refusal::LateTick => 28,
+            Refusal::Full => 29,
+            Refusal::ShortOutput => 30,
+            Refusal::BadJournal => 31,
+            Refusal::NoJournalRoom => 32,
+            Refusal::TooFarBack => 33,
+        }
     }
 }
 
@@ -89,28 +84,24 @@ impl NetworkOptions {
     pub fn good(self) -> bool
         ensures { result ≡ good_options (plain_options self) }
     {
-        if !chance::good(self.packet_loss_probability) {
-            return false;
-        }
-        if !chance::good(self.packet_replay_probability) {
-            return false;
-        }
-        self.one_way_delay_min <= self.one_way_delay_mean
+        chance::good(self.packet_loss_probability)
+            && chance::good(self.packet_replay_probability)
+            && self.one_way_delay_min <= self.one_way_delay_mean
     }
 
     // What options that are handed in answer: the first test that they fail.
-    pub fn validate(self) -> Settled
+    pub fn validate(self) -> Result<(), Refusal>
         ensures { settled_of result ≡ verdict (option_tests (plain_options self) []) }
     {
         if !chance::good(self.packet_loss_probability) {
-            return Settled::Refused(Refusal::BadLoss);
+            return Err(Refusal::BadLoss);
         }
         if !chance::good(self.packet_replay_probability) {
-            return Settled::Refused(Refusal::BadReplay);
+            return Err(Refusal::BadReplay);
         }
-        if self.one_way_delay_min <= self.one_way_delay_mean {
-            return Settled::Done;
+        if self.one_way_delay_mean < self.one_way_delay_min {
+            return Err(Refusal::MinOverMean);
         }
-        Settled::Refused(Refusal::MinOverMean)
+        Ok(())
     }
 }

@@ -1,14 +1,13 @@
 -- Those in front that are due are the first of the words: they are written out, the others move down, and zeros follow. Assumes nothing.
 use Prim.Native.Nat.{ℕ, ◌+◌, ◌-◌, ◌*◌, ◌≤◌, ◌<◌}
-use mathlib.Core.Path.{◌≡◌, refl, sym, ap, ◌∙◌}
-use mathlib.Core.List.{List, [], ◌∷◌, ◌++◌, append_assoc}
+use mathlib.Core.Path.{◌≡◌, refl, ap, ◌∙◌}
+use mathlib.Core.List.{List, [], ◌∷◌, ◌++◌}
 use mathlib.Core.Bool.{Bool, true, false, cond}
 use native.Mathlib.Omega.{arith}
-use native.Mathlib.Numerals.{add-one}
 use borrow.Author.Tests.{le-leb, lt-leb}
 use lib.Dec.{leb}
-use lib.ListN.{length, take, drop, get_or, set, replicate, length-take, length-drop, length-append, length-replicate, get_or-replicate, take-append-drop}
-use lib.Seq.{drop-cons, take-suc, set_at, length-take-le, get_or-append-add, take-take, take_all, take_at, drop-append-add, drop-drop}
+use lib.ListN.{length, take, drop, get_or, replicate, length-take, length-drop}
+use lib.Seq.{length-take-le, take-take, take_at, drop-append-add, drop-drop}
 use Rattle.nights.specs.Record.{Record, record_words, recs, record_size}
 use Rattle.network_queue.specs.Places.{front, back, due_count, left_words, gone_words}
 use Rattle.network_queue.proofs.Inserting.{length-recs, record_words-recs, record_words-take, record_words-drop, peel}
@@ -17,38 +16,9 @@ use Rattle.network_queue.proofs.Inserting.{length-recs, record_words-recs, recor
 abbrev pub filled : List ℕ → List ℕ → ℕ → List ℕ
 filled t l m = take m t ++ drop m l
 
-pub fill_step : (t l r : List ℕ) (m v : ℕ) → m < length t → m < length l → v ≡ get_or t m 0 → r ≡ filled t l m → set r m v ≡ filled t l (m + 1)
-fill_step t l r m v h k e f =
-    let q : length (take m t) ≡ m = length-take-le m t (omega arith) in
-    rw (f, e, add-one m, drop-cons l m 0 k, take-suc t m 0 h, append_assoc) (set_at (take m t) _ _ _ m q)
-
 -- the part that `down` moves
 pub length_part : (l : List ℕ) (k n : ℕ) → k ≤ n → n ≤ length l → length (drop k (take n l)) ≡ n - k
 length_part l k n h q = simp (length-drop, length-take) (omega arith)
-
--- `clear`
-abbrev pub cleared : List ℕ → ℕ → ℕ → List ℕ
-cleared l a b = take a l ++ replicate (b - a) 0
-
-module _ (l : List ℕ) (a b : ℕ) (h : a ≤ b) (k : b ≤ length l) where
-  pub length-cleared : length (cleared l a b) ≡ b
-  length-cleared = simp (length-append, length-take, length-replicate) (omega arith)
-
-  pub clear_start : l ≡ filled (cleared l a b) l a
-  clear_start =
-      let q : length (take a l) ≡ a = length-take-le a l (omega arith) in
-      rw (take_at (take a l) (replicate (b - a) 0) a q, take-append-drop)
-
-  pub clear_value : (j : ℕ) → a ≤ j → j < b → 0 ≡ get_or (cleared l a b) j 0
-  clear_value j p q =
-      let e : length (take a l) ≡ a = length-take-le a l (omega arith) in
-      let z : j ≡ length (take a l) + (j - a) = omega arith in
-      sym
-      (ap (λ (i : ℕ). get_or (cleared l a b) i 0) z
-      ∙ (get_or-append-add (take a l) _ (j - a) 0 ∙ get_or-replicate (b - a) (j - a) 0 0 (omega arith)))
-
-  pub clear_end : filled (cleared l a b) l b ≡ take a l ++ (replicate (b - a) 0 ++ drop b l)
-  clear_end = rw (take_all b (cleared l a b) (omega (arith, length-cleared)), append_assoc)
 
 -- those that are due are the first of the list
 front_step : (b : Bool) (x : Record) (f xs : List Record) → f ≡ take (length f) xs → cond b (x ∷ f) [] ≡ take (length (cond b (x ∷ f) [])) (x ∷ xs)

@@ -4,11 +4,12 @@ use mathlib.Core.Bool.{Bool, true, false}
 use Prim.Native.Nat.{ℕ}
 use native.Mathlib.Omega.{arith}
 use Rattle.basis.specs.Basis.{bit}
+use Rattle.std.specs.Prelude.{Result, Ok, Err}
 use Rattle.nights.specs.Tests.{done, refused}
+use Rattle.network_options.specs.declared.Refusal.{Refusal}
 use Rattle.network_options.specs.Answers.{refusal_number}
 use Rattle.network_options.proofs.Numbers.{numbered_once}
-use Rattle.network_send.specs.declared.SendAnswer.{SendAnswer}
-use Rattle.network_send.specs.declared.SendAnswer.TheVariants.{Accepted, Refused}
+use Rattle.network_send.specs.declared.Accepted.{Accepted}
 use Rattle.network_send.specs.Sends.{Sending, sent_of}
 
 bit_once : (a b : Bool) → bit a ≡ bit b → a ≡ b
@@ -17,19 +18,22 @@ bit_once true false e = absurd (omega arith)
 bit_once false true e = absurd (omega arith)
 bit_once false false e = refl
 
-pub sent_once : (a b : SendAnswer) → sent_of a ≡ sent_of b → a ≡ b
-sent_once (Accepted l r d x) (Accepted m t f y) e =
-    rw (
-      bit_once l m (ap (λ (z : Sending). z.lost) e),
-      bit_once r t (ap (λ (z : Sending). z.replayed) e),
-      ap (λ (z : Sending). z.draws) e,
-      ap (λ (z : Sending). z.extras) e,
-    )
-sent_once (Accepted l r d x) (Refused t) e =
+accepted_once : (a b : Accepted) → bit a.lost ≡ bit b.lost → bit a.replayed ≡ bit b.replayed → a.draws ≡ b.draws → a.extras ≡ b.extras → a ≡ b
+accepted_once a b l r d x =
+    let m = bit_once a.lost b.lost l in
+    let s = bit_once a.replayed b.replayed r in
+    λ i. record { lost = m i; replayed = s i; draws = d i; extras = x i }
+
+pub sent_once : (a b : Result Accepted Refusal) → sent_of a ≡ sent_of b → a ≡ b
+sent_once (Ok a) (Ok b) e =
+    ap Ok
+    (accepted_once a b (ap (λ (z : Sending). z.lost) e) (ap (λ (z : Sending). z.replayed) e) (ap (λ (z : Sending). z.draws) e)
+    (ap (λ (z : Sending). z.extras) e))
+sent_once (Ok a) (Err t) e =
     let p : done ≡ refused (refusal_number t) = ap (λ (z : Sending). z.answer) e in let z : ◌≡◌ {A = ℕ} 0 1 = cc in absurd (omega arith)
-sent_once (Refused r) (Accepted m t f y) e =
+sent_once (Err r) (Ok b) e =
     let p : refused (refusal_number r) ≡ done = ap (λ (z : Sending). z.answer) e in let z : ◌≡◌ {A = ℕ} 0 1 = cc in absurd (omega arith)
-sent_once (Refused r) (Refused t) e =
+sent_once (Err r) (Err t) e =
     let p : refused (refusal_number r) ≡ refused (refusal_number t) = ap (λ (z : Sending). z.answer) e in
     let z : refusal_number r ≡ refusal_number t = cc in
-    ap Refused (numbered_once r t z)
+    ap Err (numbered_once r t z)

@@ -1,5 +1,5 @@
 -- A send's answer test by test, and what a refused one tells and hands back. Assumes nothing.
-use mathlib.Core.Path.{◌≡◌, refl, ap, ◌∙◌}
+use mathlib.Core.Path.{◌≡◌, refl, ◌∙◌}
 use mathlib.Core.List.{List, [], ◌∷◌}
 use mathlib.Core.Bool.{true}
 use Prim.Native.Nat.{ℕ, ◌+◌, ◌≤◌, ◌<◌}
@@ -15,11 +15,15 @@ use Rattle.nights.specs.Tests.{Answer, done, refused, verdict, tests}
 use Rattle.nights.proofs.Failing.{first, second}
 use Rattle.network_queue.proofs.Inserting.{length-recs}
 use Rattle.network_options.specs.Options.{plain_options}
+use Rattle.network_fates.specs.declared.Decision.{Decision}
+use Rattle.network_fates.specs.declared.Decision.TheVariants.{Lost, Once, Twice}
+use Rattle.network_fates.specs.Answers.{decided_by}
 use Rattle.network_form.specs.declared.Head.{Head}
 use Rattle.network_form.specs.Forms.{formed_in}
 use Rattle.network_form.specs.Calls.{answer_in, head_after, records_after}
 use Rattle.network_form.proofs.Calling.{call_well, head_stays, records_stay}
-use Rattle.network_send.specs.Sends.{sending, send_tells, fate_answer}
+use Rattle.network_send.specs.declared.Letter.{Letter as Told}
+use Rattle.network_send.specs.Sends.{plain_letter, sending, send_tells, fate_answer}
 
 module _ (h : Head) (w : List ℕ) (m : Letter) (draws extras : List ℕ) where
   -- what a refused send tells, and hands back
@@ -56,12 +60,6 @@ module _ (h : Head) (w : List ℕ) (m : Letter) (draws extras : List ℕ) where
           call_well h w (send m draws extras) f
           ∙ rw (le-leb m.kind last_kind k, le-leb m.sort last_sort o, le-ltb h.sent sent_limit q)
 
-      pub limit_head : sent_limit ≤ h.sent → h ≡ head_after (send m draws extras) h w
-      limit_head q = (unsent 25 (limit_met q)).0
-
-      pub limit_records : sent_limit ≤ h.sent → w ≡ records_after (send m draws extras) h w
-      limit_records q = (unsent 25 (limit_met q)).1.0
-
       module _ (q : h.sent < sent_limit) where
         pub fate_refuses : (n : ℕ) → fate_here ≡ refuse n → answer_in (send m draws extras) h w ≡ refused n
         unfolding tests verdict
@@ -95,6 +93,11 @@ module _ (h : Head) (w : List ℕ) (m : Letter) (draws extras : List ℕ) where
           send_well r =
               passes_on g e a ∙ rw (le-leb (length (recs w 0 h.pending) + length (dues g)) capacity (omega (arith, many)))
 
+-- the same of a letter of the code, for any words
+pub limit_decides : (h : Head) (m : Told) (draws extras : List ℕ) → m.kind ≤ last_kind → m.sort ≤ last_sort → sent_limit ≤ h.sent
+    → (w : List ℕ) → formed_in h w ≡ true → answer_in (send (plain_letter m) draws extras) h w ≡ refused 25
+limit_decides h m draws extras k o q w f = limit_met h w (plain_letter m) draws extras f k o q
+
 -- ---- what a decided send tells
 
 pub answer_of : (a : Answer) (d : Decided) → (sending a d).answer ≡ a
@@ -102,12 +105,12 @@ unfolding sending
 answer_of done d = refl
 answer_of (refused k) d = refl
 
-pub refusing_fate : (f : Fate) (k : ℕ) → fate_answer f ≡ refused k → f ≡ refuse k
+-- what is decided is no refusal
+pub accepts : (d : Decision) → fate_answer (decided_by d).fate ≡ done
 unfolding fate_answer
-refusing_fate (refuse j) k e = let z : j ≡ k = cc in ap refuse z
-refusing_fate lose k e = let z : ◌≡◌ {A = ℕ} 0 1 = cc in absurd (omega arith)
-refusing_fate (once d x) k e = let z : ◌≡◌ {A = ℕ} 0 1 = cc in absurd (omega arith)
-refusing_fate (twice c d x y) k e = let z : ◌≡◌ {A = ℕ} 0 1 = cc in absurd (omega arith)
+accepts (Lost d) = refl
+accepts (Once t l d x) = refl
+accepts (Twice c t k l d x) = refl
 
 -- a send raises no counter by more than two
 pub record Few (f : Fate) : Type 0 where

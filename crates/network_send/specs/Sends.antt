@@ -1,16 +1,18 @@
 -- What a send is told, and what its answer tells. Assumes nothing.
-use Rattle.std.specs.Prelude.{ℕ, List}
+use Rattle.std.specs.Prelude.{ℕ, List, Result, Ok, Err, ◌≡◌, ◌+◌, ◌≤◌, length}
 use Rattle.basis.specs.Basis.{bit}
-use Rattle.nights.specs.Net.{Letter, Fate, refuse, lose, once, twice, lost_by, replayed_by, send}
+use Rattle.nights.specs.Net.{capacity, dues, Letter, Fate, refuse, lose, once, twice, lost_by, replayed_by, send}
 use Rattle.nights.specs.Draws.{Decided, decided}
 use Rattle.nights.specs.Tests.{Answer, done, refused}
+use Rattle.network_options.specs.declared.Refusal.{Refusal}
 use Rattle.network_options.specs.Options.{plain_options}
 use Rattle.network_options.specs.Answers.{refusal_number}
+use Rattle.network_fates.specs.declared.Decision.{Decision}
+use Rattle.network_fates.specs.Answers.{decided_by}
 use Rattle.network_form.specs.declared.Head.{Head}
 use Rattle.network_form.specs.Calls.{answer_in}
 use Rattle.network_send.specs.declared.Letter.{Letter as Told}
-use Rattle.network_send.specs.declared.SendAnswer.{SendAnswer}
-use Rattle.network_send.specs.declared.SendAnswer.TheVariants.{Accepted, Refused}
+use Rattle.network_send.specs.declared.Accepted.{Accepted}
 
 -- what a send is told, from the code's own struct of it
 abbrev pub plain_letter : Told → Letter
@@ -28,9 +30,9 @@ pub record Sending : Type 0 where
   pub draws : ℕ
   pub extras : ℕ
 
-abbrev pub sent_of : SendAnswer → Sending
-sent_of (Accepted l r d x) = record { answer = done; lost = bit l; replayed = bit r; draws = d; extras = x }
-sent_of (Refused r) = record { answer = refused (refusal_number r); lost = 0; replayed = 0; draws = 0; extras = 0 }
+abbrev pub sent_of : Result Accepted Refusal → Sending
+sent_of (Ok a) = record { answer = done; lost = bit a.lost; replayed = bit a.replayed; draws = a.draws; extras = a.extras }
+sent_of (Err r) = record { answer = refused (refusal_number r); lost = 0; replayed = 0; draws = 0; extras = 0 }
 
 unfoldable pub sending : Answer → Decided → Sending
 sending done d =
@@ -48,3 +50,11 @@ fate_answer (refuse k) = refused k
 fate_answer lose = done
 fate_answer (once d x) = done
 fate_answer (twice c d x y) = done
+
+-- INSIDE: what the code decides of a send is decided, with room for its copies, and a refusal is the answer's
+abbrev pub Decides : Result Decision Refusal → Letter → (draws extras : List ℕ) → Head → List ℕ → Type 0
+Decides (Ok d) m draws extras h w =
+    (answer_in (send m draws extras) h w ≡ done)
+    × (decided_by d ≡ decided (plain_options h.options) m.now m.kind draws extras)
+    × (h.pending + length (dues (decided_by d).fate) ≤ capacity)
+Decides (Err r) m draws extras h w = answer_in (send m draws extras) h w ≡ refused (refusal_number r)

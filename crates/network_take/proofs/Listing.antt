@@ -1,7 +1,7 @@
 -- Counting and listing what is pending, test by test: what a refused one tells, and what an accepted one does. Assumes nothing.
-use mathlib.Core.Path.{◌≡◌}
+use mathlib.Core.Path.{◌≡◌, refl, sym, ap, ◌∙◌}
 use mathlib.Core.List.{List, ◌++◌}
-use mathlib.Core.Bool.{true, false}
+use mathlib.Core.Bool.{Bool, true, false}
 use Prim.Native.Nat.{ℕ, ◌*◌, ◌≤◌, ◌<◌}
 use native.Mathlib.Omega.{arith}
 use borrow.Author.Tests.{le-leb, lt-leb}
@@ -31,6 +31,17 @@ module _ (h : Head) (w : List ℕ) where
   unfolding form_answer verdict counting
   is_counted e = rw (e, many)
 
+  -- what a count tells is what it found
+  pub counted_formed : (n : ℕ) → ◌≡◌ {A = Count} (record { answer = done; records = n }) (count_tells h w)
+      → (formed_in h w ≡ true) × (n ≡ h.pending)
+  counted_formed n e = go (formed_in h w) refl
+    where
+      go : (b : Bool) → formed_in h w ≡ b → (formed_in h w ≡ true) × (n ≡ h.pending)
+      go true f = (f, ap (λ (x : Count). x.records) (e ∙ sym (is_counted f)))
+      go false f =
+          let p : done ≡ refused 23 = ap (λ (x : Count). x.answer) (e ∙ sym (not_counted f)) in
+          let z : ◌≡◌ {A = ℕ} 0 1 = cc in absurd (omega arith)
+
   -- ---- listing
 
   module _ (out : List ℕ) where
@@ -43,6 +54,18 @@ module _ (h : Head) (w : List ℕ) where
         → (◌≡◌ {A = Count} (record { answer = refused 23; records = 0 }) (list_tells (length out) h w)) × (out ≡ list_gives out h w)
     unfolding list_answer verdict
     list_ill e = unlisted 23 (rw e)
+
+    -- a list is refused where a count is
+    pub list_refused : (k : ℕ) → ◌≡◌ {A = Count} (record { answer = refused k; records = 0 }) (count_tells h w)
+        → (◌≡◌ {A = Count} (record { answer = refused k; records = 0 }) (list_tells (length out) h w)) × (out ≡ list_gives out h w)
+    list_refused k e = go (formed_in h w) refl
+      where
+        go : (b : Bool) → formed_in h w ≡ b
+            → (◌≡◌ {A = Count} (record { answer = refused k; records = 0 }) (list_tells (length out) h w)) × (out ≡ list_gives out h w)
+        go true f =
+            let p : refused k ≡ done = ap (λ (x : Count). x.answer) (e ∙ sym (is_counted f)) in
+            let z : ◌≡◌ {A = ℕ} 0 1 = cc in absurd (omega arith)
+        go false f = (e ∙ (sym (not_counted f) ∙ (list_ill f).0), (list_ill f).1)
 
     module _ (f : formed_in h w ≡ true) where
       pub list_short : length out < h.pending * record_size

@@ -2,23 +2,23 @@
 use mathlib.Core.Path.{◌≡◌, refl, ap}
 use Prim.Native.Nat.{ℕ}
 use native.Mathlib.Omega.{arith}
+use Rattle.std.specs.Prelude.{Result, Ok, Err}
 use Rattle.nights.specs.Tests.{Answer, done, refused}
+use Rattle.network_options.specs.declared.Refusal.{Refusal}
 use Rattle.network_options.specs.Answers.{refusal_number}
 use Rattle.network_options.proofs.Numbers.{numbered_once}
-use Rattle.network_take.specs.declared.Counted.{Counted}
-use Rattle.network_take.specs.declared.Counted.TheVariants.{Records, Refused}
 use Rattle.network_take.specs.Takes.{Count, counted_of, counting}
 
-pub counted_once : (a b : Counted) → counted_of a ≡ counted_of b → a ≡ b
-counted_once (Records n) (Records k) e = ap Records (ap (λ (x : Count). x.records) e)
-counted_once (Records n) (Refused r) e =
+pub counted_once : (a b : Result ℕ Refusal) → counted_of a ≡ counted_of b → a ≡ b
+counted_once (Ok n) (Ok k) e = ap Ok (ap (λ (x : Count). x.records) e)
+counted_once (Ok n) (Err r) e =
     let p : done ≡ refused (refusal_number r) = ap (λ (x : Count). x.answer) e in let z : ◌≡◌ {A = ℕ} 0 1 = cc in absurd (omega arith)
-counted_once (Refused r) (Records n) e =
+counted_once (Err r) (Ok n) e =
     let p : refused (refusal_number r) ≡ done = ap (λ (x : Count). x.answer) e in let z : ◌≡◌ {A = ℕ} 0 1 = cc in absurd (omega arith)
-counted_once (Refused r) (Refused t) e =
+counted_once (Err r) (Err t) e =
     let p : refused (refusal_number r) ≡ refused (refusal_number t) = ap (λ (x : Count). x.answer) e in
     let z : refusal_number r ≡ refusal_number t = cc in
-    ap Refused (numbered_once r t z)
+    ap Err (numbered_once r t z)
 
 pub counting_of : (a : Answer) (n : ℕ) → (counting a n).answer ≡ a
 unfolding counting

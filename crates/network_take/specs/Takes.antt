@@ -1,23 +1,22 @@
 -- What a take, a count and a list of what is pending tell, and what is written to the lent output. Assumes nothing.
-use Rattle.std.specs.Prelude.{ℕ, List, length}
+use Rattle.std.specs.Prelude.{ℕ, List, length, Result, Ok, Err}
 use Rattle.nights.specs.Record.{Record, record_words}
 use Rattle.nights.specs.Net.{keep, is_due, collect}
 use Rattle.nights.specs.Tests.{Answer, done, refused}
+use Rattle.network_options.specs.declared.Refusal.{Refusal}
 use Rattle.network_options.specs.Answers.{refusal_number}
 use Rattle.network_form.specs.declared.Head.{Head}
 use Rattle.network_form.specs.Forms.{plain_in}
 use Rattle.network_form.specs.Calls.{answer_in, form_answer, list_answer, written}
-use Rattle.network_take.specs.declared.Counted.{Counted}
-use Rattle.network_take.specs.declared.Counted.TheVariants.{Records, Refused}
 
 -- a call that tells a number of records: the answer, and the number, 0 beside a refusal
 pub record Count : Type 0 where
   pub answer : Answer
   pub records : ℕ
 
-abbrev pub counted_of : Counted → Count
-counted_of (Records n) = record { answer = done; records = n }
-counted_of (Refused r) = record { answer = refused (refusal_number r); records = 0 }
+abbrev pub counted_of : Result ℕ Refusal → Count
+counted_of (Ok n) = record { answer = done; records = n }
+counted_of (Err r) = record { answer = refused (refusal_number r); records = 0 }
 
 unfoldable pub counting : Answer → ℕ → Count
 counting done n = record { answer = done; records = n }

@@ -2,22 +2,20 @@
 -- a send or a take inside tells. Assumes nothing.
 use mathlib.Core.Path.{◌≡◌, sym, ap, ◌∙◌}
 use mathlib.Core.List.{List, [], ◌∷◌}
-use mathlib.Core.Bool.{Bool, true, false}
+use mathlib.Core.Bool.{true, false}
 use Prim.Native.Nat.{ℕ}
+use Rattle.std.specs.Prelude.{Result, Ok, Err}
 use Rattle.basis.specs.Basis.{bit}
 use Rattle.nights.specs.Draws.{Decided}
 use Rattle.nights.specs.Tests.{Answer, done, refused}
 use Rattle.network_options.specs.declared.Refusal.{Refusal}
 use Rattle.network_options.specs.Answers.{refusal_number}
-use Rattle.network_send.specs.declared.SendAnswer.{SendAnswer}
-use Rattle.network_send.specs.declared.SendAnswer.TheVariants.{Accepted, Refused as Unsent}
+use Rattle.network_send.specs.declared.Accepted.{Accepted}
 use Rattle.network_send.specs.Sends.{Sending, sent_of, sending}
 use Rattle.network_send.proofs.Testing.{answer_of}
-use Rattle.network_take.specs.declared.Counted.{Counted}
-use Rattle.network_take.specs.declared.Counted.TheVariants.{Records, Refused as Uncounted}
 use Rattle.network_take.specs.Takes.{Count, counted_of, counting}
 use Rattle.network_take.proofs.Once.{counting_of}
-use Rattle.network_layout.specs.Layout.{head_fits, answer_code, if_head}
+use Rattle.network_layout.specs.Layout.{head_fits, if_head}
 use Rattle.network_words.specs.Calls.{Rows, by_answer, send_told}
 use Rattle.network_layout.proofs.Heads.{no_head, a_head}
 
@@ -47,14 +45,6 @@ unfolding by_answer
 finished a e =
     record { number = λ w c. rw e; head = λ w c. rw e; records = λ w c. rw e; out = λ w c. rw e; told = λ w c. rw e }
 
--- a number that is not 0 is a refusal's
-pub number_refused : (a : Answer) (n : ℕ) → n ≡ answer_code a → (n ≡ 0 → ⊥) → a ≡ refused n
-number_refused done n e h = absurd (h e)
-number_refused (refused k) n e h = ap refused (sym e)
-
-pub kept_by : (a : Answer) (n : ℕ) → n ≡ answer_code a → (n ≡ 0 → ⊥) → Kept a n
-kept_by a n e h = kept a n (number_refused a n e h)
-
 -- of words that are no head, and of words that are one
 module _ (h : List ℕ) (a : Answer) where
   pub unread : head_fits h ≡ false → Kept (if_head h a) 23
@@ -69,15 +59,15 @@ module _ (h : List ℕ) (a : Answer) where
 
 -- ---- the answer by what a send tells
 
-module _ (t : SendAnswer) (a : Answer) (d : Decided) (e : sent_of t ≡ sending a d) where
-  pub sent_refused : (r : Refusal) → t ≡ Unsent r → a ≡ refused (refusal_number r)
+module _ (t : Result Accepted Refusal) (a : Answer) (d : Decided) (e : sent_of t ≡ sending a d) where
+  pub sent_refused : (r : Refusal) → t ≡ Err r → a ≡ refused (refusal_number r)
   sent_refused r q = sym (answer_of a d) ∙ ap (λ (z : Sending). z.answer) (sym e ∙ ap sent_of q)
 
-  module _ (l r : Bool) (n x : ℕ) (q : t ≡ Accepted l r n x) where
+  module _ (x : Accepted) (q : t ≡ Ok x) where
     pub sent_done : a ≡ done
     sent_done = sym (answer_of a d) ∙ ap (λ (z : Sending). z.answer) (sym e ∙ ap sent_of q)
 
-    pub sent_told : bit l ∷ bit r ∷ n ∷ x ∷ [] ≡ send_told d
+    pub sent_told : bit x.lost ∷ bit x.replayed ∷ x.draws ∷ x.extras ∷ [] ≡ send_told d
     unfolding sending
     sent_told =
         ap (λ (z : Sending). z.lost ∷ z.replayed ∷ z.draws ∷ z.extras ∷ [])
@@ -85,11 +75,11 @@ module _ (t : SendAnswer) (a : Answer) (d : Decided) (e : sent_of t ≡ sending 
 
 -- ---- and by what a take, a count or a list tells
 
-module _ (t : Counted) (a : Answer) (n : ℕ) (e : counted_of t ≡ counting a n) where
-  pub taken_refused : (r : Refusal) → t ≡ Uncounted r → a ≡ refused (refusal_number r)
+module _ (t : Result ℕ Refusal) (a : Answer) (n : ℕ) (e : counted_of t ≡ counting a n) where
+  pub taken_refused : (r : Refusal) → t ≡ Err r → a ≡ refused (refusal_number r)
   taken_refused r q = sym (counting_of a n) ∙ ap (λ (z : Count). z.answer) (sym e ∙ ap counted_of q)
 
-  module _ (k : ℕ) (q : t ≡ Records k) where
+  module _ (k : ℕ) (q : t ≡ Ok k) where
     pub taken_done : a ≡ done
     taken_done = sym (counting_of a n) ∙ ap (λ (z : Count). z.answer) (sym e ∙ ap counted_of q)
 

@@ -7,96 +7,163 @@
 #![tactic(auto)]
 
 ghost use Rattle.std.specs.Prelude.{◌≡◌};
+ghost use Rattle.network_options.specs.Answers.{settled_of};
 ghost use Rattle.network_send.specs.Sends.{plain_letter};
-ghost use Rattle.network_layout.specs.Layout.{loaded, options_from};
+ghost use Rattle.network_layout.specs.Layout.{options_of, answer_code};
 ghost use Rattle.network_words.specs.Calls.{new_rows, option_rows, send_rows, take_rows, count_rows, list_rows};
 
-use network_layout::{HEAD_WORDS, ILL_FORMED};
-use network_options::number_of;
+use network_form::Head;
+use network_layout::{HEAD_WORDS, OptionWords, answer_number};
+use network_options::Refusal;
 use network_queue::WORDS;
-use network_send::{Letter, SendAnswer};
-use network_take::Counted;
+use network_send::Letter;
 
-// A fresh network of these options; the flag is no for 0 and yes otherwise.
-pub fn new(
+// ---- The calls, each answering with its refusal
+
+fn new_in(
     head: &mut [u64; HEAD_WORDS],
     records: &mut [u64; WORDS],
-    loss: u64,
-    replay: u64,
-    min: u64,
-    mean: u64,
-    flag: u64,
-) -> u64
-    ensures answer { result ≡ (new_rows head.old records.old (options_from loss replay min mean flag)).number }
-    ensures head { head.new ≡ (new_rows head.old records.old (options_from loss replay min mean flag)).head }
-    ensures records { records.new ≡ (new_rows head.old records.old (options_from loss replay min mean flag)).records }
+    options: OptionWords,
+) -> Result<(), Refusal>
+    ensures answer { answer_code (settled_of result) ≡ (new_rows head.old records.old (options_of options)).number }
+    ensures head { head.new ≡ (new_rows head.old records.old (options_of options)).head }
+    ensures records { records.new ≡ (new_rows head.old records.old (options_of options)).records }
 {
-    let number = network_layout::options_number(loss, replay, min, mean);
-    if number != 0 {
-        return number;
+    let options = options.options()?;
+    network_layout::store(Head::empty(options), head);
+    *records = [0; WORDS];
+    Ok(())
+}
+
+fn set_options_in(
+    head: &mut [u64; HEAD_WORDS],
+    records: &[u64; WORDS],
+    options: OptionWords,
+) -> Result<(), Refusal>
+    ensures answer { answer_code (settled_of result) ≡ (option_rows head.old records.now (options_of options)).number }
+    ensures head { head.new ≡ (option_rows head.old records.now (options_of options)).head }
+{
+    let Some(old) = network_layout::load(head) else {
+        return Err(Refusal::IllFormed);
+    };
+    if !network_form::formed(records, old) {
+        return Err(Refusal::IllFormed);
     }
-    *head = [
-        loss,
-        replay,
-        min,
-        mean,
-        basis::flag_word(flag != 0),
-        0,
-        0,
-        0,
-        0,
-        0,
-        0,
-        0,
+    let options = options.options()?;
+    network_layout::store(Head { options, ..old }, head);
+    Ok(())
+}
+
+fn send_in(
+    head: &mut [u64; HEAD_WORDS],
+    records: &mut [u64; WORDS],
+    letter: Letter,
+    draws: &[u64],
+    extras: &[u64],
+    told: &mut [u64; 4],
+) -> Result<(), Refusal>
+    ensures answer { answer_code (settled_of result) ≡ (send_rows head.old records.old (plain_letter letter) draws.now extras.now told.old).number }
+    ensures head { head.new ≡ (send_rows head.old records.old (plain_letter letter) draws.now extras.now told.old).head }
+    ensures records { records.new ≡ (send_rows head.old records.old (plain_letter letter) draws.now extras.now told.old).records }
+    ensures told { told.new ≡ (send_rows head.old records.old (plain_letter letter) draws.now extras.now told.old).told }
+{
+    let Some(old) = network_layout::load(head) else {
+        return Err(Refusal::IllFormed);
+    };
+    let sent = network_send::send_in(records, old, letter, draws, extras);
+    let accepted = sent.answer?;
+    network_layout::store(sent.state, head);
+    *told = [
+        u64::from(accepted.lost),
+        u64::from(accepted.replayed),
+        accepted.draws as u64,
+        accepted.extras as u64,
     ];
-    *records = [0u64; WORDS];
-    0
+    Ok(())
+}
+
+fn take_in(
+    head: &mut [u64; HEAD_WORDS],
+    records: &mut [u64; WORDS],
+    tick: u64,
+    out: &mut [u64],
+    told: &mut [u64; 1],
+) -> Result<(), Refusal>
+    ensures answer { answer_code (settled_of result) ≡ (take_rows head.old records.old tick out.old told.old).number }
+    ensures head { head.new ≡ (take_rows head.old records.old tick out.old told.old).head }
+    ensures records { records.new ≡ (take_rows head.old records.old tick out.old told.old).records }
+    ensures out { out.new ≡ (take_rows head.old records.old tick out.old told.old).out }
+    ensures told { told.new ≡ (take_rows head.old records.old tick out.old told.old).told }
+{
+    let Some(old) = network_layout::load(head) else {
+        return Err(Refusal::IllFormed);
+    };
+    let taken = network_take::take_in(records, old, tick, out);
+    let count = taken.answer?;
+    network_layout::store(taken.state, head);
+    *told = [count as u64];
+    Ok(())
+}
+
+fn list_in(
+    head: &[u64; HEAD_WORDS],
+    records: &[u64; WORDS],
+    out: &mut [u64],
+    told: &mut [u64; 1],
+) -> Result<(), Refusal>
+    ensures answer { answer_code (settled_of result) ≡ (list_rows head.now records.now out.old told.old).number }
+    ensures out { out.new ≡ (list_rows head.now records.now out.old told.old).out }
+    ensures told { told.new ≡ (list_rows head.now records.now out.old told.old).told }
+{
+    let Some(held) = network_layout::load(head) else {
+        return Err(Refusal::IllFormed);
+    };
+    let count = network_take::list_in(records, held, out)?;
+    *told = [count as u64];
+    Ok(())
+}
+
+fn count_in(
+    head: &[u64; HEAD_WORDS],
+    records: &[u64; WORDS],
+    told: &mut [u64; 1],
+) -> Result<(), Refusal>
+    ensures answer { answer_code (settled_of result) ≡ (count_rows head.now records.now told.old).number }
+    ensures told { told.new ≡ (count_rows head.now records.now told.old).told }
+{
+    let Some(held) = network_layout::load(head) else {
+        return Err(Refusal::IllFormed);
+    };
+    let count = network_take::count_in(records, held)?;
+    *told = [count as u64];
+    Ok(())
+}
+
+// ---- The same, answering with a number
+
+// A fresh network of these options.
+// Kept: the C interface tells a refusal by its number, here and in each call below.
+pub fn new(head: &mut [u64; HEAD_WORDS], records: &mut [u64; WORDS], options: OptionWords) -> u64
+    ensures answer { result ≡ (new_rows head.old records.old (options_of options)).number }
+    ensures head { head.new ≡ (new_rows head.old records.old (options_of options)).head }
+    ensures records { records.new ≡ (new_rows head.old records.old (options_of options)).records }
+{
+    answer_number(new_in(head, records, options))
 }
 
 // Replaces the options.
 pub fn set_options(
     head: &mut [u64; HEAD_WORDS],
     records: &[u64; WORDS],
-    loss: u64,
-    replay: u64,
-    min: u64,
-    mean: u64,
-    flag: u64,
+    options: OptionWords,
 ) -> u64
-    ensures answer { result ≡ (option_rows head.old records.now (options_from loss replay min mean flag)).number }
-    ensures head { head.new ≡ (option_rows head.old records.now (options_from loss replay min mean flag)).head }
+    ensures answer { result ≡ (option_rows head.old records.now (options_of options)).number }
+    ensures head { head.new ≡ (option_rows head.old records.now (options_of options)).head }
 {
-    let loaded = network_layout::load(head);
-    if !loaded.fits {
-        return ILL_FORMED;
-    }
-    network_queue::whole(records);
-    if !network_form::formed(records, loaded.head) {
-        return ILL_FORMED;
-    }
-    let number = network_layout::options_number(loss, replay, min, mean);
-    if number != 0 {
-        return number;
-    }
-    let old = *head;
-    *head = [
-        loss,
-        replay,
-        min,
-        mean,
-        basis::flag_word(flag != 0),
-        old[network_layout::PENDING],
-        old[network_layout::SEQ],
-        old[network_layout::SENT],
-        old[network_layout::DELIVERED],
-        old[network_layout::LOST],
-        old[network_layout::REPLAYED],
-        old[network_layout::DELAYED],
-    ];
-    0
+    answer_number(set_options_in(head, records, options))
 }
 
-// Accepts a message sent at tick `now`: whether it was lost, whether it was replayed, and the draws and extras used are told.
+// Accepts a message: whether it was lost, whether it was replayed, and the draws and extras used are told.
 pub fn send(
     head: &mut [u64; HEAD_WORDS],
     records: &mut [u64; WORDS],
@@ -114,31 +181,7 @@ pub fn send(
     ensures told { told.new ≡ (send_rows head.old records.old (plain_letter letter)
         draws.now extras.now told.old).told }
 {
-    let loaded = network_layout::load(head);
-    if !loaded.fits {
-        return ILL_FORMED;
-    }
-    network_queue::whole(records);
-    let sent = network_send::send_in(records, loaded.head, letter, draws, extras);
-    let answer = sent.answer;
-    match answer {
-        SendAnswer::Refused(refusal) => number_of(refusal),
-        SendAnswer::Accepted {
-            lost,
-            replayed,
-            draws: drawn,
-            extras: added,
-        } => {
-            network_layout::store(sent.head, head);
-            *told = [
-                basis::flag_word(lost),
-                basis::flag_word(replayed),
-                drawn as u64,
-                added as u64,
-            ];
-            0
-        }
-    }
+    answer_number(send_in(head, records, letter, draws, extras, told))
 }
 
 // Takes every message due at a tick to the front of the lent output: how many they are is told.
@@ -155,21 +198,7 @@ pub fn take_due(
     ensures out { out.new ≡ (take_rows head.old records.old tick out.old told.old).out }
     ensures told { told.new ≡ (take_rows head.old records.old tick out.old told.old).told }
 {
-    let loaded = network_layout::load(head);
-    if !loaded.fits {
-        return ILL_FORMED;
-    }
-    network_queue::whole(records);
-    let taken = network_take::take_in(records, loaded.head, tick, out);
-    let answer = taken.answer;
-    match answer {
-        Counted::Refused(refusal) => number_of(refusal),
-        Counted::Records(count) => {
-            network_layout::store(taken.head, head);
-            *told = [count as u64];
-            0
-        }
-    }
+    answer_number(take_in(head, records, tick, out, told))
 }
 
 // The messages in flight, in delivery order, at the front of the lent output: how many they are is told.
@@ -183,19 +212,7 @@ pub fn in_flight(
     ensures out { out.new ≡ (list_rows head.now records.now out.old told.old).out }
     ensures told { told.new ≡ (list_rows head.now records.now out.old told.old).told }
 {
-    let loaded = network_layout::load(head);
-    if !loaded.fits {
-        return ILL_FORMED;
-    }
-    network_queue::whole(records);
-    let listed = network_take::list_in(records, loaded.head, out);
-    match listed {
-        Counted::Refused(refusal) => number_of(refusal),
-        Counted::Records(count) => {
-            *told = [count as u64];
-            0
-        }
-    }
+    answer_number(list_in(head, records, out, told))
 }
 
 // How many messages are in flight is told.
@@ -203,17 +220,5 @@ pub fn pending(head: &[u64; HEAD_WORDS], records: &[u64; WORDS], told: &mut [u64
     ensures answer { result ≡ (count_rows head.now records.now told.old).number }
     ensures told { told.new ≡ (count_rows head.now records.now told.old).told }
 {
-    let loaded = network_layout::load(head);
-    if !loaded.fits {
-        return ILL_FORMED;
-    }
-    network_queue::whole(records);
-    let counted = network_take::count_in(records, loaded.head);
-    match counted {
-        Counted::Refused(refusal) => number_of(refusal),
-        Counted::Records(count) => {
-            *told = [count as u64];
-            0
-        }
-    }
+    answer_number(count_in(head, records, told))
 }

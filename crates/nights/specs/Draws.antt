@@ -1,11 +1,10 @@
 -- What a send's lent draws and extras decide (RULES, "The network"): whether the message is lost, replayed, how late each copy is,
 -- and how many words of each list are used, from its front. The draws are chance's. Of the refusals 26, 27 and 28 the first that
 -- the whole call meets answers. Assumes nothing.
-use Rattle.std.specs.Prelude.{ℕ, ◌+◌, ◌^◌, List, Bool, false, cond, ◌&&◌, not, leb, ltb, eqb, length, get_or}
+use Rattle.std.specs.Prelude.{ℕ, ◌+◌, ◌^◌, List, Bool, false, cond, ◌&&◌, not, leb, ltb, eqb, length, get_or, Option, Some, None}
 use Rattle.std.specs.Float.{binary64}
 use Rattle.std.specs.Float.Ieee.{of_bits}
 use Rattle.chance.specs.declared.Draw.{Draw}
-use Rattle.chance.specs.declared.Draw.TheVariants.{Yes, No, Short}
 use Rattle.chance.specs.Draw.{gen_bool_in_send}
 use Rattle.nights.specs.Net.{Options, Fate, refuse, lose, once, twice, Draws}
 
@@ -67,15 +66,16 @@ both o now extras drawn =
     (refusing 27)
 
 -- after the replay draw, and after the loss draw: a draw that finds no word is 26
-unfoldable pub after_replay : Options → ℕ → List ℕ → Draw → Decided
-after_replay o now extras (Yes place) = both o now extras place
-after_replay o now extras (No place) = alone o now extras place
-after_replay o now extras Short = refusing 26
+unfoldable pub after_replay : Options → ℕ → List ℕ → Option Draw → Decided
+after_replay o now extras (Some d) = cond d.yes (both o now extras d.next) (alone o now extras d.next)
+after_replay o now extras None = refusing 26
 
-unfoldable pub after_loss : Options → ℕ → List ℕ → List ℕ → Draw → Decided
-after_loss o now draws extras (Yes place) = record { fate = lose; draws = place; extras = 0 }
-after_loss o now draws extras (No place) = after_replay o now extras (gen_bool_in_send (of_bits binary64 o.replay) draws place)
-after_loss o now draws extras Short = refusing 26
+unfoldable pub after_loss : Options → ℕ → List ℕ → List ℕ → Option Draw → Decided
+after_loss o now draws extras (Some d) =
+    cond d.yes
+    (record { fate = lose; draws = d.next; extras = 0 })
+    (after_replay o now extras (gen_bool_in_send (of_bits binary64 o.replay) draws d.next))
+after_loss o now draws extras None = refusing 26
 
 -- the whole: a message that is not faulted is due at once
 unfoldable pub decided : Options → ℕ → ℕ → List ℕ → List ℕ → Decided

@@ -1,5 +1,5 @@
-// The plain form of the network and the journal, for statements: definitions and laws, in specs/ and proofs/. A crate has a function;
-// this one's says how many words a record has, by the definition that every other part takes it from.
+// The plain form of the network and the journal, for statements: definitions and laws, in specs/ and proofs/. Its one function says how
+// many words a record has, by the definition that every other part takes it from.
 #![tactic(auto)]
 
 ghost use Rattle.std.specs.Prelude.{◌≡◌};

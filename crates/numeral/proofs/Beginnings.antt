@@ -17,7 +17,7 @@ use Rattle.numeral.specs.Digits.{is_digit, is_all_digits, value_of}
 use Rattle.numeral.specs.Reading.{unsigned, begins_number, why_at, with_digit, Digits, Says}
 use Rattle.numeral.specs.declared.Why.{Why}
 use Rattle.numeral.specs.declared.Why.TheVariants.{StrayByte, TooLarge}
-use Rattle.numeral.specs.declared.Step.TheVariants.{Next, Stopped}
+use Rattle.std.specs.Prelude.{Ok, Err}
 
 pub is_true : (b : Bool) → T b → b ≡ true
 is_true true t = refl
@@ -164,24 +164,24 @@ module _ (p : List ℕ) (b : ℕ) (begun : begins_number p ≡ true) (unplussed 
       by_byte false = refl
 
   -- the byte is a digit that fits: a number begins with it too
-  pub goes_on : (n : ℕ) → with_digit (value_of (unsigned p)) b ≡ Next n
+  pub goes_on : (n : ℕ) → with_digit (value_of (unsigned p)) b ≡ Ok n
       → (begins_number (p ++ b ∷ []) ≡ true) × (value_of (unsigned (p ++ b ∷ [])) ≡ n)
   unfolding with_digit
   goes_on n e = let t = by_tests (is_digit b) (ltb longer (2 ^ 64)) e in (begins_more ∙ t.0, value_more ∙ t.1)
     where
-      by_tests : (d t : Bool) → cond d (cond t (Next longer) (Stopped TooLarge)) (Stopped StrayByte) ≡ Next n
+      by_tests : (d t : Bool) → cond d (cond t (Ok longer) (Err TooLarge)) (Err StrayByte) ≡ Ok n
           → ((d && t) ≡ true) × (longer ≡ n)
       by_tests true true e = (refl, cc)
-      by_tests true false e = let z : ◌≡◌ {A = ℕ} 0 1 = cc in absurd (omega arith)
-      by_tests false t e = let z : ◌≡◌ {A = ℕ} 0 1 = cc in absurd (omega arith)
+      by_tests true false e = absurd (cc)
+      by_tests false t e = absurd (cc)
 
   -- it is none, or one too much: none does
-  pub stops_here : (why : Why) → with_digit (value_of (unsigned p)) b ≡ Stopped why → (begins_number (p ++ b ∷ []) ≡ false) × (why_at b ≡ why)
+  pub stops_here : (why : Why) → with_digit (value_of (unsigned p)) b ≡ Err why → (begins_number (p ++ b ∷ []) ≡ false) × (why_at b ≡ why)
   unfolding with_digit
   stops_here why e = let t = by_tests (is_digit b) (ltb longer (2 ^ 64)) e in (begins_more ∙ t.0, t.1)
     where
-      by_tests : (d t : Bool) → cond d (cond t (Next longer) (Stopped TooLarge)) (Stopped StrayByte) ≡ Stopped why
+      by_tests : (d t : Bool) → cond d (cond t (Ok longer) (Err TooLarge)) (Err StrayByte) ≡ Err why
           → ((d && t) ≡ false) × (cond d TooLarge StrayByte ≡ why)
-      by_tests true true e = let z : ◌≡◌ {A = ℕ} 0 1 = cc in absurd (omega arith)
+      by_tests true true e = absurd (cc)
       by_tests true false e = (refl, cc)
       by_tests false t e = (refl, cc)

@@ -4,8 +4,8 @@ use mathlib.Core.Bool.{Bool, true, false, cond}
 use mathlib.Core.List.{List, ◌++◌, append_assoc}
 use mathlib.Core.Logic.{inl}
 use mathlib.Core.Path.{◌≡◌, refl, sym, ap, subst, ◌∙◌}
-use Prim.Native.Nat.{ℕ, zero, suc, ◌+◌, ◌-◌, ◌/◌, ◌%◌, ◌^◌, ◌≤◌, ◌<◌}
-use native.Mathlib.Nat.{pow-suc, pow-succ', div-lt_iff_lt-mul, le-div_iff_mul-le, div-div-eq-div-mul, mod-eq_of_lt, zero-lt-suc}
+use Prim.Native.Nat.{ℕ, zero, suc, ◌+◌, ◌-◌, ◌*◌, ◌/◌, ◌%◌, ◌^◌, ◌≤◌, ◌<◌}
+use native.Mathlib.Nat.{pow-suc, pow-succ', div-lt_iff_lt-mul, le-div_iff_mul-le, div-div-eq-div-mul, mod-eq_of_lt, zero-lt-suc, pow-le-pow_right}
 use native.Mathlib.Omega.{arith}
 use borrow.Author.Tests.{lt-ltb, le-ltb, le-leb, ltb-true, ltb-false}
 use lib.Arith.{mod-mul}
@@ -15,7 +15,7 @@ use lib.Seq.{take-suc, set_at, length-take-le}
 use Rattle.numeral.specs.Digits.{is_digit, is_all_digits, value_of, last_digits}
 use Rattle.numeral.specs.Reading.{number_of}
 use Rattle.numeral.specs.Writing.{digit_count, decimal}
-use Rattle.numeral.specs.declared.Number.TheVariants.{Value}
+use Rattle.std.specs.Prelude.{Ok}
 use Rattle.numeral.proofs.Laws.{complete}
 
 pub length-last_digits : (k n : ℕ) → length (last_digits k n) ≡ k
@@ -86,6 +86,22 @@ pub no_needless_zero : (n : ℕ) → 0 < n → 10 ^ (length (decimal n) - 1) ≤
 unfolding decimal
 no_needless_zero n h = rw (length-last_digits (digit_count 19 n) n) (count_least 19 n h)
 
+-- so the digits are one more than how often ten divides
+smaller : {i j : ℕ} → 10 ^ i < 10 ^ j → i < j
+smaller {i} {j} h = by_test (ltb i j) refl
+  where
+    by_test : (b : Bool) → ltb i j ≡ b → i < j
+    by_test true e = ltb-true i j e
+    by_test false e = absurd (omega (arith, pow-le-pow_right {n = 10} (lit< tt) (ltb-false i j e)))
+
+pub counted : (n d : ℕ) → n < 10 ^ 20 → 10 ^ d ≤ n → n < 10 * 10 ^ d → d + 1 ≡ digit_count 19 n
+counted n d small least below =
+    let k = digit_count 19 n in
+    let some : 0 < n = omega (arith, ten_pow_pos d) in
+    let few : k - 1 < suc d = smaller (rw (pow-succ' 10 d) (omega (arith, count_least 19 n some))) in
+    let many : d < k = smaller (omega (arith, count_covers 19 n small)) in
+    omega arith
+
 -- ---- writing from the last digit on: the digits after place i stand already
 abbrev pub shown : List ℕ → ℕ → ℕ → ℕ → ℕ → List ℕ
 shown out n place count i = take (place + i) out ++ (last_digits (count - i) n ++ drop (place + count) out)
@@ -131,7 +147,7 @@ value_last_digits (suc k) n =
     let z : 48 + d - 48 ≡ d = omega arith in
     rw (z, length-last_digits k n, value_last_digits k n, pow-succ' 10 k) (sym (mod-mul n {m = 10} {c = 10 ^ k} (lit< tt) (ten_pow_pos k)))
 
-pub reads_back : (n : ℕ) → n < 2 ^ 64 → number_of (decimal n) ≡ Value n
+pub reads_back : (n : ℕ) → n < 2 ^ 64 → number_of (decimal n) ≡ Ok n
 unfolding decimal
 reads_back n h =
     let k = digit_count 19 n in

@@ -6,6 +6,7 @@ use mathlib.Core.Bool.{Bool, true, false, cond, ◌&&◌}
 use mathlib.Core.List.{List, [], ◌∷◌}
 use mathlib.Core.Logic.{◌⊎◌, inl, inr}
 use mathlib.Core.Path.{◌≡◌, refl, sym, ap, subst, ◌∙◌}
+use Rattle.std.specs.Prelude.{Result, Ok, Err}
 use Prim.Native.Nat.{ℕ, suc, ◌+◌, ◌-◌, ◌*◌, ◌^◌, ◌≤◌, ◌<◌}
 use native.Mathlib.Nat.{eq-or-lt_of_le}
 use native.Mathlib.Omega.{arith}
@@ -15,11 +16,10 @@ use lib.ListN.{length, take, get_or}
 use lib.Seq.{take-suc, take_all, length-take-le}
 use Rattle.basis.proofs.Laws.{both}
 use Rattle.numeral.specs.Digits.{is_digit, is_all_digits, value_of}
-use Rattle.numeral.specs.Reading.{unsigned, begins_number, stop_from, stop, number_of, is_number, good, bad, word_judged, forgetting, Digits, Says, BadAt, missing, stray, large}
+use Rattle.numeral.specs.Reading.{unsigned, begins_number, stop_from, stop, flaw_at, number_of, is_number, good, bad, word_judged, forgetting, Digits, Says, BadAt, missing, stray, large}
 use Rattle.numeral.specs.declared.Why.{Why}
-use Rattle.numeral.specs.declared.Why.TheVariants.{NoDigit, StrayByte, TooLarge}
-use Rattle.numeral.specs.declared.Number.{Number}
-use Rattle.numeral.specs.declared.Number.TheVariants.{Value, Bad}
+use Rattle.numeral.specs.declared.Why.TheVariants.{StrayByte, TooLarge}
+use Rattle.numeral.specs.declared.Flaw.{Flaw}
 use Rattle.numeral.proofs.Beginnings.{is_true, never, no_sign, begins_take, begins_more, value_more}
 use Rattle.numeral.proofs.Stopping.{StopsAt, stops_at, says_bad, says_value, says_missing}
 
@@ -39,9 +39,9 @@ digits_sound ds n e =
     -- the three tests, each by itself
     accepted : (p q r : Bool) (v : ℕ) → cond (p && q && r) (good v) bad ≡ good n → (p ≡ true) × (q ≡ true) × (r ≡ true) × (v ≡ n)
     accepted true true true v e = (refl, refl, refl, cc)
-    accepted true true false v e = let z : ◌≡◌ {A = ℕ} 0 1 = cc in absurd (omega arith)
-    accepted true false r v e = let z : ◌≡◌ {A = ℕ} 0 1 = cc in absurd (omega arith)
-    accepted false q r v e = let z : ◌≡◌ {A = ℕ} 0 1 = cc in absurd (omega arith)
+    accepted true true false v e = absurd (cc)
+    accepted true false r v e = absurd (cc)
+    accepted false q r v e = absurd (cc)
 
 digits_complete : (ds : List ℕ) (n : ℕ) → Digits ds n → cond (is_number ds) (good (value_of ds)) bad ≡ good n
 unfolding is_number
@@ -101,16 +101,16 @@ reason_forgotten w = by_place (eq-or-lt_of_le (stops_at w).within)
         not_begun true q = never (sym ((stops_at w).here h) ∙ begins_take w (suc (stop w)) (length w) h (rw (take_all (length w) w (omega arith)) q))
         not_begun false q = refl
 
-forgotten_good : (a : Number) (n : ℕ) → forgetting a ≡ good n → a ≡ Value n
-forgotten_good (Value m) n e = let z : m ≡ n = cc in rw z
-forgotten_good (Bad why place) n e = let z : ◌≡◌ {A = ℕ} 0 1 = cc in absurd (omega arith)
+forgotten_good : (a : Result ℕ Flaw) (n : ℕ) → forgetting a ≡ good n → a ≡ Ok n
+forgotten_good (Ok m) n e = let z : m ≡ n = cc in rw z
+forgotten_good (Err flaw) n e = absurd (cc)
 
 -- what is accepted has that value
-pub sound : (w : List ℕ) (n : ℕ) → number_of w ≡ Value n → Says w n
+pub sound : (w : List ℕ) (n : ℕ) → number_of w ≡ Ok n → Says w n
 sound w n e = judged_sound w n (sym (reason_forgotten w) ∙ ap forgetting e)
 
 -- what says a number is not refused
-pub complete : (w : List ℕ) (n : ℕ) → Says w n → number_of w ≡ Value n
+pub complete : (w : List ℕ) (n : ℕ) → Says w n → number_of w ≡ Ok n
 complete w n s = forgotten_good (number_of w) n (reason_forgotten w ∙ judged_complete w n s)
 
 -- a word says one number at most
@@ -163,38 +163,40 @@ digit_no_plus : (b : ℕ) → is_digit b ≡ true → b ≡ 43 → ⊥
 unfolding is_digit
 digit_no_plus b h e = never (rw e at h)
 
+-- a reason and a place that are told are told once
+one_flaw : {y z : Why} {p q : ℕ} → ◌≡◌ {A = Result ℕ Flaw} (Err (flaw_at y p)) (Err (flaw_at z q)) → (y ≡ z) × (p ≡ q)
+one_flaw {y} {z} {p} {q} e =
+    let f : flaw_at y p ≡ flaw_at z q = cc in
+    (ap (λ (a : Flaw). a.why) f, ap (λ (a : Flaw). a.byte) f)
+
 -- what is told fits the word
-pub bad_tells : (w : List ℕ) (why : Why) (place : ℕ) → number_of w ≡ Bad why place → BadAt w why place
+pub bad_tells : (w : List ℕ) (why : Why) (place : ℕ) → number_of w ≡ Err (flaw_at why place) → BadAt w why place
 unfolding begins_number
 bad_tells w why place e = by_place (eq-or-lt_of_le (stops_at w).within)
   where
     by_digits : (t : Bool) → ltb 0 (length (unsigned w)) ≡ t → StopsAt w (length w) → BadAt w why place
     by_digits true q s =
         let v = says_value w s (ltb-true 0 (length (unsigned w)) q) in
-        let z : ◌≡◌ {A = ℕ} 0 1 = cc in
-        absurd (omega arith)
+        absurd (cc)
     by_digits false q s =
         let l : length (unsigned w) ≡ 0 = omega (arith, ltb-false 0 (length (unsigned w)) q) in
-        let v = says_missing w s l in
-        let y : NoDigit ≡ why = cc in
-        let p : length w ≡ place = cc in
-        rw (← y, ← p) (missing (bare w l))
+        let f = one_flaw (sym (says_missing w s l) ∙ e) in
+        rw (← f.0, ← f.1) (missing (bare w l))
 
-    by_byte : (t : Bool) → is_digit (get_or w (stop w) 0) ≡ t → stop w < length w → Bad (cond t TooLarge StrayByte) (stop w) ≡ Bad why place
+    by_byte : (t : Bool) → is_digit (get_or w (stop w) 0) ≡ t → stop w < length w
+        → ◌≡◌ {A = Result ℕ Flaw} (Err (flaw_at (cond t TooLarge StrayByte) (stop w))) (Err (flaw_at why place))
         → BadAt w why place
     by_byte false q h f =
-        let y : StrayByte ≡ why = cc in
-        let p : stop w ≡ place = cc in
-        rw (← y, ← p) (stray (record { inside = h; begun = (stops_at w).before; other = q; unplussed = not_at_plus w (stop w) (stops_at w) h }))
+        let t = one_flaw f in
+        rw (← t.0, ← t.1) (stray (record { inside = h; begun = (stops_at w).before; other = q; unplussed = not_at_plus w (stop w) (stops_at w) h }))
     by_byte true q h f =
-        let y : TooLarge ≡ why = cc in
-        let p : stop w ≡ place = cc in
+        let t = one_flaw f in
         let i = stop w in
         let s = stops_at w in
         let n = not_at_plus w i s h in
         let b = both (is_all_digits (unsigned (take i w))) (ltb (value_of (unsigned (take i w))) (2 ^ 64)) s.before in
         let o : ltb (longer w i h s.before n) (2 ^ 64) ≡ false = rw q at (sym (with_it w i h s.before n) ∙ s.here h) in
-        rw (← y, ← p)
+        rw (← t.0, ← t.1)
         (large
         (record {
           inside = h;
@@ -209,7 +211,7 @@ bad_tells w why place e = by_place (eq-or-lt_of_le (stops_at w).within)
     by_place (inr h) = by_byte (is_digit (get_or w (stop w) 0)) refl h (sym (says_bad w (stop w) (stops_at w) h) ∙ e)
 
 -- and what fits it is told
-pub tells_bad : (w : List ℕ) {why : Why} {place : ℕ} → BadAt w why place → number_of w ≡ Bad why place
+pub tells_bad : (w : List ℕ) {why : Why} {place : ℕ} → BadAt w why place → number_of w ≡ Err (flaw_at why place)
 unfolding number_of stop stop_from begins_number unsigned is_all_digits value_of
 tells_bad w (missing (inl e)) = rw e
 tells_bad w (missing (inr e)) = rw e
@@ -224,10 +226,10 @@ tells_bad w (large {place} s) =
 
 -- at most one reason and one place fit a word
 pub one_reason : (w : List ℕ) {y z : Why} {p q : ℕ} → BadAt w y p → BadAt w z q → (y ≡ z) × (p ≡ q)
-one_reason w a b = let d = tells_bad w a in let e = tells_bad w b in (cc, cc)
+one_reason w a b = one_flaw (sym (tells_bad w a) ∙ tells_bad w b)
 
 -- a word is bad at one of its bytes or at its end
-pub place_within : (w : List ℕ) (why : Why) (place : ℕ) → number_of w ≡ Bad why place → place ≤ length w
+pub place_within : (w : List ℕ) (why : Why) (place : ℕ) → number_of w ≡ Err (flaw_at why place) → place ≤ length w
 place_within w why place e = by_case (bad_tells w why place e)
   where
     by_case : {y : Why} {p : ℕ} → BadAt w y p → p ≤ length w
@@ -238,11 +240,11 @@ place_within w why place e = by_case (bad_tells w why place e)
 -- ---- the words of the rules, by their bytes (crate worked has more)
 
 -- `+007` is 7
-pub seven : number_of (43 ∷ 48 ∷ 48 ∷ 55 ∷ []) ≡ Value 7
+pub seven : number_of (43 ∷ 48 ∷ 48 ∷ 55 ∷ []) ≡ Ok 7
 unfolding number_of stop stop_from begins_number unsigned is_all_digits is_digit value_of
 seven = refl
 
 -- `1,500` is bad at its comma: neither 1500 nor 1
-pub comma : number_of (49 ∷ 44 ∷ 53 ∷ 48 ∷ 48 ∷ []) ≡ Bad StrayByte 1
+pub comma : number_of (49 ∷ 44 ∷ 53 ∷ 48 ∷ 48 ∷ []) ≡ Err (flaw_at StrayByte 1)
 unfolding number_of stop stop_from begins_number unsigned is_all_digits is_digit value_of
 comma = refl

@@ -3,7 +3,8 @@
 use mathlib.Core.Bool.{Bool, true, false, cond, ◌&&◌}
 use mathlib.Core.List.{List, [], ◌∷◌}
 use mathlib.Core.Path.{◌≡◌, refl, sym, ap, ◌∙◌}
-use Prim.Native.Nat.{ℕ, zero, suc, ◌+◌, ◌-◌, ◌^◌, ◌≤◌, ◌<◌}
+use Rattle.std.specs.Prelude.{Ok, Err}
+use Prim.Native.Nat.{ℕ, zero, suc, ◌+◌, ◌^◌, ◌≤◌, ◌<◌}
 use native.Mathlib.Numerals.{add-one}
 use native.Mathlib.Omega.{arith}
 use borrow.Author.Tests.{lt-ltb, le-ltb, eq-eqb}
@@ -11,11 +12,9 @@ use lib.Dec.{ltb, eqb}
 use lib.ListN.{length, take, get_or}
 use lib.Seq.{take-suc, take_all}
 use Rattle.numeral.specs.Digits.{is_all_digits, value_of}
-use Rattle.numeral.specs.Reading.{unsigned, sign_bytes, begins_number, stop_from, stop, why_at, number_of, with_digit}
+use Rattle.numeral.specs.Reading.{unsigned, sign_bytes, begins_number, stop_from, stop, why_at, flaw_at, number_of, with_digit}
 use Rattle.numeral.specs.declared.Why.{Why}
 use Rattle.numeral.specs.declared.Why.TheVariants.{NoDigit}
-use Rattle.numeral.specs.declared.Number.TheVariants.{Value, Bad}
-use Rattle.numeral.specs.declared.Step.TheVariants.{Next, Stopped}
 use Rattle.numeral.proofs.Beginnings.{never, begins_take, goes_on, stops_here}
 
 -- ---- the place where a word stops
@@ -56,15 +55,15 @@ stops_once w i a = omega (arith, not_before w (stop w) i (stops_at w) a, not_bef
 
 -- ---- what a word says, by the place
 module _ (w : List ℕ) where
-  pub says_bad : (i : ℕ) → StopsAt w i → i < length w → number_of w ≡ Bad (why_at (get_or w i 0)) i
+  pub says_bad : (i : ℕ) → StopsAt w i → i < length w → number_of w ≡ Err (flaw_at (why_at (get_or w i 0)) i)
   unfolding number_of
   says_bad i a h = rw (stops_once w i a, lt-ltb i (length w) h)
 
-  pub says_value : StopsAt w (length w) → 0 < length (unsigned w) → number_of w ≡ Value (value_of (unsigned w))
+  pub says_value : StopsAt w (length w) → 0 < length (unsigned w) → number_of w ≡ Ok (value_of (unsigned w))
   unfolding number_of
   says_value a h = rw (stops_once w (length w) a, le-ltb (length w) (length w) (omega arith), lt-ltb 0 (length (unsigned w)) h)
 
-  pub says_missing : StopsAt w (length w) → length (unsigned w) ≡ 0 → number_of w ≡ Bad NoDigit (length w)
+  pub says_missing : StopsAt w (length w) → length (unsigned w) ≡ 0 → number_of w ≡ Err (flaw_at NoDigit (length w))
   unfolding number_of
   says_missing a h = rw (stops_once w (length w) a, le-ltb (length w) (length w) (omega arith), le-ltb 0 (length (unsigned w)) (omega arith))
 
@@ -111,12 +110,12 @@ pub record Reading (w : List ℕ) (value i : ℕ) : Type 0 where
   pub so_far : value_of (unsigned (take i w)) ≡ value
 
 -- the word is a sign or nothing
-pub no_digit : (w : List ℕ) (from : ℕ) → from ≡ sign_bytes w → length w ≤ from → Bad NoDigit from ≡ number_of w
+pub no_digit : (w : List ℕ) (from : ℕ) → from ≡ sign_bytes w → length w ≤ from → Err (flaw_at NoDigit from) ≡ number_of w
 no_digit w from e h =
     let l = length-unsigned w in
     let z : length w ≡ from = omega arith in
     let t : begins_number w ≡ true = rw (take_all (sign_bytes w) w (omega arith)) at (sign_begins w).0 in
-    sym (says_missing w (whole w t) (omega arith) ∙ ap (Bad NoDigit) z)
+    sym (says_missing w (whole w t) (omega arith) ∙ ap (λ (p : ℕ). Err (flaw_at NoDigit p)) z)
 
 pub starts : (w : List ℕ) (from : ℕ) → from ≡ sign_bytes w → from < length w → Reading w 0 from
 starts w from e h =
@@ -127,7 +126,7 @@ module _ {w : List ℕ} {value i : ℕ} (r : Reading w value i) where
     clear : length (take i w) ≡ 0 → get_or w i 0 ≡ 43 → ⊥
     clear = no_sign_at w i h r.behind
 
-    pub reads_on : (n : ℕ) → with_digit value (get_or w i 0) ≡ Next n → Reading w n (i + 1)
+    pub reads_on : (n : ℕ) → with_digit value (get_or w i 0) ≡ Ok n → Reading w n (i + 1)
     reads_on n e =
         let g = goes_on (take i w) (get_or w i 0) r.begun clear n (ap (λ (v : ℕ). with_digit v (get_or w i 0)) r.so_far ∙ e) in
         let t = take-suc w i 0 h in
@@ -139,14 +138,14 @@ module _ {w : List ℕ} {value i : ℕ} (r : Reading w value i) where
           so_far = rw (add-one i, t) g.1;
         }
 
-    pub stops : (why : Why) → with_digit value (get_or w i 0) ≡ Stopped why → Bad why i ≡ number_of w
+    pub stops : (why : Why) → with_digit value (get_or w i 0) ≡ Err why → Err (flaw_at why i) ≡ number_of w
     stops why e =
         let g = stops_here (take i w) (get_or w i 0) r.begun clear why (ap (λ (v : ℕ). with_digit v (get_or w i 0)) r.so_far ∙ e) in
         let s : StopsAt w i = record { within = r.within; before = r.begun; here = λ k. rw (take-suc w i 0 h) g.0 } in
-        sym (says_bad w i s h ∙ ap (λ (y : Why). Bad y i) g.1)
+        sym (says_bad w i s h ∙ ap (λ (y : Why). Err (flaw_at y i)) g.1)
 
-  pub ends : length w ≤ i → Value value ≡ number_of w
+  pub ends : length w ≤ i → Ok value ≡ number_of w
   ends h =
       let l = length-unsigned w in
       let a = take_all i w h in
-      sym (says_value w (whole w (rw a at r.begun)) (omega (arith, r.some)) ∙ ap Value (rw a at r.so_far))
+      sym (says_value w (whole w (rw a at r.begun)) (omega (arith, r.some)) ∙ ap Ok (rw a at r.so_far))

@@ -1,14 +1,11 @@
 -- The format of a number in a fault script (RULES, "Fault scripts", numbers): an optional single `+`, then one or more digits,
 -- of value at most 2 ^ 64 - 1. Leading zeros are not limited. A word that is no number goes bad at one of its bytes or at its end,
 -- counted from 0, and for one of three reasons. Assumes nothing.
-use Rattle.std.specs.Prelude.{Bool, true, false, cond, ◌&&◌, List, [], ◌∷◌, ◌⊎◌, ◌≡◌, ℕ, zero, suc, ◌+◌, ◌-◌, ◌*◌, ◌^◌, ◌≤◌, ◌<◌, ltb, eqb, T, length, take, get_or}
+use Rattle.std.specs.Prelude.{Bool, true, false, cond, ◌&&◌, List, [], ◌∷◌, ◌⊎◌, ◌≡◌, ℕ, zero, suc, ◌+◌, ◌-◌, ◌*◌, ◌^◌, ◌≤◌, ◌<◌, ltb, eqb, T, length, take, get_or, Result, Ok, Err}
 use Rattle.numeral.specs.Digits.{is_digit, is_all_digits, value_of}
 use Rattle.numeral.specs.declared.Why.{Why}
 use Rattle.numeral.specs.declared.Why.TheVariants.{NoDigit, StrayByte, TooLarge}
-use Rattle.numeral.specs.declared.Number.{Number}
-use Rattle.numeral.specs.declared.Number.TheVariants.{Value, Bad}
-use Rattle.numeral.specs.declared.Step.{Step}
-use Rattle.numeral.specs.declared.Step.TheVariants.{Next, Stopped}
+use Rattle.numeral.specs.declared.Flaw.{Flaw}
 
 -- the reasons' numbers
 abbrev pub why_number : Why → ℕ
@@ -45,16 +42,20 @@ stop w = stop_from (length w) 0 w
 abbrev pub why_at : ℕ → Why
 why_at b = cond (is_digit b) TooLarge StrayByte
 
+-- a reason and a place together
+abbrev pub flaw_at : Why → ℕ → Flaw
+flaw_at why place = record { why = why; byte = place }
+
 -- what a word says: it goes bad at the first such place; or it is a number, if it has a digit; or the digit is missing at its end
-unfoldable pub number_of : List ℕ → Number
+unfoldable pub number_of : List ℕ → Result ℕ Flaw
 number_of w =
-    cond (ltb (stop w) (length w)) (Bad (why_at (get_or w (stop w) 0)) (stop w))
-    (cond (ltb 0 (length (unsigned w))) (Value (value_of (unsigned w))) (Bad NoDigit (length w)))
+    cond (ltb (stop w) (length w)) (Err (flaw_at (why_at (get_or w (stop w) 0)) (stop w)))
+    (cond (ltb 0 (length (unsigned w))) (Ok (value_of (unsigned w))) (Err (flaw_at NoDigit (length w))))
 
 -- a number with one more byte behind it: ten times the number and the digit; or why there is none
-unfoldable pub with_digit : ℕ → ℕ → Step
+unfoldable pub with_digit : ℕ → ℕ → Result ℕ Why
 with_digit n b =
-    cond (is_digit b) (cond (ltb (n * 10 + (b - 48)) (2 ^ 64)) (Next (n * 10 + (b - 48))) (Stopped TooLarge)) (Stopped StrayByte)
+    cond (is_digit b) (cond (ltb (n * 10 + (b - 48)) (2 ^ 64)) (Ok (n * 10 + (b - 48))) (Err TooLarge)) (Err StrayByte)
 
 -- ---- the same without why and where: a word is good with its number, or it is bad
 
@@ -70,9 +71,9 @@ unfoldable pub word_judged : List ℕ → GoodOrBad
 word_judged w = cond (is_number (unsigned w)) (good (value_of (unsigned w))) bad
 
 -- an answer with its reason and its place forgotten
-abbrev pub forgetting : Number → GoodOrBad
-forgetting (Value n) = good n
-forgetting (Bad why place) = bad
+abbrev pub forgetting : Result ℕ Flaw → GoodOrBad
+forgetting (Ok n) = good n
+forgetting (Err flaw) = bad
 
 -- ---- both as relations, for the laws
 

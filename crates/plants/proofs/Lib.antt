@@ -1,6 +1,4 @@
 -- Laws that belong to no one function.
 pub mod Testing
 pub mod Counting
-pub mod Applying
-pub mod Judging
 pub mod Laws

@@ -1,18 +1,14 @@
 -- A fault applied to the plants (RULES, "Plants and core"). Crash counts only if the plant is up, restart only if it is down. Reboot always counts
 -- a reboot and a restart, ends up, and uses one draw as nonce. Crash, restart and reboot always set stable-until to the tick. Assumes nothing.
-use Rattle.std.specs.Prelude.{Bool, true, false, not, List, [], ◌∷◌, ℕ, ◌+◌, ltb, get_or, set, replicate}
+use Rattle.std.specs.Prelude.{Bool, true, false, not, List, [], ◌∷◌, ℕ, ◌+◌, ltb, get_or, set, replicate, Option, Some, None, Result, Ok, Err}
 use Rattle.script.specs.declared.fault.Fault.{Fault}
 use Rattle.script.specs.declared.fault.Fault.TheVariants.{Crash, Restart, Reboot, Partition, Heal, HealAll}
 use Rattle.plants.specs.Refusals.{must, ◌then◌}
 use Rattle.basis.specs.Basis.{most, bit}
-use Rattle.plants.specs.State.{tested, counts_fit}
+use Rattle.plants.specs.State.{Next, tested, counts_fit}
 use Rattle.plants.specs.declared.Plants.{Plants}
-use Rattle.plants.specs.declared.Next.{Next}
-use Rattle.plants.specs.declared.Outcome.{Outcome}
-use Rattle.plants.specs.declared.Outcome.TheVariants.{Done, Nonce, Refused}
+use Rattle.plants.specs.declared.refusal.Refusal.{Refusal}
 use Rattle.plants.specs.declared.refusal.Refusal.TheVariants.{UnknownPlant, CountFull, NoNonce}
-use Rattle.plants.specs.declared.refusal.Test.{Test}
-use Rattle.plants.specs.declared.refusal.Test.TheVariants.{Passed, Failed}
 
 -- whether a plant is up
 abbrev pub is_up : Plants → ℕ → Bool
@@ -63,14 +59,14 @@ knows s (Heal i) = ltb i s.n
 knows s HealAll = true
 
 -- what a fault answers: a reboot the first draw as its nonce, if there is one
-abbrev pub answered : Fault → List ℕ → Outcome
-answered (Crash i) draws = Done
-answered (Restart i) draws = Done
-answered (Reboot i) [] = Refused NoNonce
-answered (Reboot i) (d ∷ ds) = Nonce d
-answered (Partition i) draws = Done
-answered (Heal i) draws = Done
-answered HealAll draws = Done
+abbrev pub answered : Fault → List ℕ → Result (Option ℕ) Refusal
+answered (Crash i) draws = Ok None
+answered (Restart i) draws = Ok None
+answered (Reboot i) [] = Err NoNonce
+answered (Reboot i) (d ∷ ds) = Ok (Some d)
+answered (Partition i) draws = Ok None
+answered (Heal i) draws = Ok None
+answered HealAll draws = Ok None
 
 -- whether there is a draw where one is used
 abbrev pub has_nonce : Fault → List ℕ → Bool
@@ -83,7 +79,7 @@ has_nonce (Heal i) draws = true
 has_nonce HealAll draws = true
 
 -- the tests 40, 42, 41, 43 and 44, in this order
-unfoldable pub fault_tested : Plants → ℕ → Fault → List ℕ → Test
+unfoldable pub fault_tested : Plants → ℕ → Fault → List ℕ → Result Unit Refusal
 fault_tested s tick fault draws =
     tested s
     then must (knows s fault) UnknownPlant
@@ -91,9 +87,9 @@ fault_tested s tick fault draws =
     then must (has_nonce fault draws) NoNonce
 
 -- the plants that follow and the answer: a refusal hands the plants back as they came
-abbrev pub applied_if : Test → Plants → ℕ → Fault → List ℕ → Next
-applied_if Passed s tick fault draws = record { plants = after_fault s tick fault; outcome = answered fault draws }
-applied_if (Failed r) s tick fault draws = record { plants = s; outcome = Refused r }
+abbrev pub applied_if : Result Unit Refusal → Plants → ℕ → Fault → List ℕ → Next
+applied_if (Ok x) s tick fault draws = record { state = after_fault s tick fault; answer = answered fault draws }
+applied_if (Err r) s tick fault draws = record { state = s; answer = Err r }
 
 unfoldable pub applied : Plants → ℕ → Fault → List ℕ → Next
 applied s tick fault draws = applied_if (fault_tested s tick fault draws) s tick fault draws

@@ -1,13 +1,12 @@
 -- The state of 3 to 15 plants (RULES, "Plants and core"), when it is well formed, and a fresh_plants one. A state has room for 15 plants: flags and
 -- numbers are lists of 15, of which the first n are the plants'. Assumes nothing.
-use Rattle.std.specs.Prelude.{Bool, true, false, cond, not, ◌&&◌, List, [], ◌∷◌, ◌++◌, ℕ, ◌-◌, ◌^◌, leb, drop, replicate}
+use Rattle.std.specs.Prelude.{Bool, true, false, cond, not, ◌&&◌, List, [], ◌∷◌, ◌++◌, ℕ, ◌-◌, ◌^◌, leb, drop, replicate, Option, None, Result, Ok, Err}
 use Rattle.basis.specs.Basis.{most, plant_count}
 use Rattle.plants.specs.Refusals.{must, ◌then◌}
 use Rattle.plants.specs.declared.Plants.{Plants}
-use Rattle.plants.specs.declared.Next.{Next}
-use Rattle.plants.specs.declared.Outcome.TheVariants.{Done, Refused}
+use Rattle.calls.specs.declared.After.{After}
+use Rattle.plants.specs.declared.refusal.Refusal.{Refusal}
 use Rattle.plants.specs.declared.refusal.Refusal.TheVariants.{PlantCount, IllFormed}
-use Rattle.plants.specs.declared.refusal.Test.{Test}
 
 -- the most that a count may be
 abbrev pub limit : ℕ
@@ -27,7 +26,7 @@ unfoldable pub plants_formed : Plants → Bool
 plants_formed s = none_set (drop s.n s.up) && none_set (drop s.n s.partitioned) && counts_fit s
 
 -- the tests of a state, which come first in every call: 40 and then 42
-unfoldable pub tested : Plants → Test
+unfoldable pub tested : Plants → Result Unit Refusal
 tested s = must (plant_count s.n) PlantCount then must (plants_formed s) IllFormed
 
 -- all n up, and zeros
@@ -47,7 +46,11 @@ fresh_plants n =
 abbrev pub blank : Plants
 blank = fresh_plants 0
 
+-- what a call on the plants hands back: the plants that follow it, and done, done with a nonce that was drawn, or why it is refused
+abbrev pub Next : Type 0
+Next = After Plants (Result (Option ℕ) Refusal)
+
 -- a new state
 unfoldable pub new_plants : ℕ → Next
 new_plants n =
-    cond (plant_count n) (record { plants = fresh_plants n; outcome = Done }) (record { plants = blank; outcome = Refused PlantCount })
+    cond (plant_count n) (record { state = fresh_plants n; answer = Ok None }) (record { state = blank; answer = Err PlantCount })

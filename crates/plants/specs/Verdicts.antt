@@ -1,6 +1,6 @@
 -- What becomes of a message that is due (RULES, "Plants and core"): 1 if the receiver is down, else 2 if the receiver or a sending replica is
 -- partitioned, else 0. A client's id isn't tested. Assumes nothing.
-use Rattle.std.specs.Prelude.{Bool, true, false, cond, ◌||◌, ℕ, ltb, get_or}
+use Rattle.std.specs.Prelude.{Bool, true, false, cond, ◌||◌, ℕ, ltb, get_or, Result, Ok, Err}
 use Rattle.plants.specs.Refusals.{must, ◌then◌}
 use Rattle.plants.specs.State.{tested}
 use Rattle.plants.specs.Faults.{is_up}
@@ -9,11 +9,8 @@ use Rattle.plants.specs.declared.Origin.{Origin}
 use Rattle.plants.specs.declared.Origin.TheVariants.{Replica, Client}
 use Rattle.plants.specs.declared.Verdict.{Verdict}
 use Rattle.plants.specs.declared.Verdict.TheVariants.{Deliver, ReceiverDown, CutOff}
-use Rattle.plants.specs.declared.Judged.{Judged}
-use Rattle.plants.specs.declared.Judged.TheVariants.{Is, Refused}
+use Rattle.plants.specs.declared.refusal.Refusal.{Refusal}
 use Rattle.plants.specs.declared.refusal.Refusal.TheVariants.{UnknownPlant}
-use Rattle.plants.specs.declared.refusal.Test.{Test}
-use Rattle.plants.specs.declared.refusal.Test.TheVariants.{Passed, Failed}
 
 abbrev pub verdict_number : Verdict → ℕ
 verdict_number Deliver = 0
@@ -41,13 +38,13 @@ abbrev pub verdict_of : Plants → Origin → ℕ → Verdict
 verdict_of s from to = verdict_by (is_up s to) (is_partitioned s to) (sender_partitioned s from)
 
 -- the tests 40, 42 and 41, in this order
-unfoldable pub verdict_tested : Plants → Origin → ℕ → Test
+unfoldable pub verdict_tested : Plants → Origin → ℕ → Result Unit Refusal
 verdict_tested s from to =
     tested s then must (ltb to s.n) UnknownPlant then must (sender_known s from) UnknownPlant
 
-abbrev pub judged_if : Test → Plants → Origin → ℕ → Judged
-judged_if Passed s from to = Is (verdict_of s from to)
-judged_if (Failed r) s from to = Refused r
+abbrev pub judged_if : Result Unit Refusal → Plants → Origin → ℕ → Result Verdict Refusal
+judged_if (Ok x) s from to = Ok (verdict_of s from to)
+judged_if (Err r) s from to = Err r
 
-unfoldable pub verdict_given : Plants → Origin → ℕ → Judged
+unfoldable pub verdict_given : Plants → Origin → ℕ → Result Verdict Refusal
 verdict_given s from to = judged_if (verdict_tested s from to) s from to

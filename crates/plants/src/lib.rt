@@ -4,19 +4,21 @@
 
 pub mod refusal;
 
-ghost use Rattle.std.specs.Prelude.{◌≡◌, true, false, ◌++◌, ◌-◌, ◌≤◌, ◌<◌, length, drop, replicate, set};
-ghost use Rattle.plants.specs.State.{limit, fresh_plants, new_plants, tested, counts_fit, none_set};
+ghost use Rattle.std.specs.Prelude.{◌≡◌, true, cond, ◌≤◌, ◌<◌, ltb, set, Ok, Err, MatchResult};
+ghost use Rattle.plants.specs.State.{limit, fresh_plants, new_plants, tested, counts_fit, plants_formed, none_set};
 ghost use Rattle.plants.specs.Faults.{after_fault, applied, answered, knows, parted};
 ghost use Rattle.plants.specs.Verdicts.{verdict_number, verdict_by, verdict_given};
 
 use basis::MOST;
-use refusal::{Refusal, Test};
+use calls::After;
+use refusal::Refusal;
 use script::fault::Fault;
 
 // The most that a count may be, 2^62: so a count that rises by a few never wraps.
-pub const LIMIT: u64 = 4611686018427387904;
+pub const LIMIT: u64 = 1 << 62;
 
 // The state of n plants, which are numbered from 0. There is room for 15.
+// Kept: rows of fields, since a row of structs is no plainer: heal-all, a core and the lent words each set one field of every plant.
 #[derive(Clone, Copy)]
 pub struct Plants {
     pub n: usize,
@@ -30,22 +32,6 @@ pub struct Plants {
     pub crashes: u64,
     pub restarts: u64,
     pub reboots: u64,
-}
-
-// What a call that changes the plants answers: done, done with a nonce that was drawn, or why it is
-// refused.
-#[derive(Clone, Copy)]
-pub enum Outcome {
-    Done,
-    Nonce(u64),
-    Refused(Refusal),
-}
-
-// The plants that follow a call, and its answer. After a refusal they are as they came.
-#[derive(Clone, Copy)]
-pub struct Next {
-    pub plants: Plants,
-    pub outcome: Outcome,
 }
 
 // Who sends a message.
@@ -63,13 +49,6 @@ pub enum Verdict {
     CutOff,
 }
 
-// The verdict on a message, or why none is given.
-#[derive(Clone, Copy)]
-pub enum Judged {
-    Is(Verdict),
-    Refused(Refusal),
-}
-
 impl Verdict {
     // Its number in the rules.
     pub fn number(self) -> u64
@@ -83,33 +62,11 @@ impl Verdict {
     }
 }
 
-// Whether no flag is set from a place on.
-fn none_set(flags: &[bool; 15], from: usize) -> bool
-    requires { (length flags.now ≡ 15) × (from ≤ 15) }
-    ensures { result ≡ none_set (drop from flags.now) }
+// Whether no flag is set.
+fn none_set(flags: &[bool]) -> bool
+    ensures { result ≡ none_set flags.now }
 {
-    let mut i = from;
-    while i < MOST {
-        if flags[i] {
-            return false;
-        }
-        i += 1;
-    }
-    true
-}
-
-// The first n flags set.
-fn first_set(n: usize) -> [bool; 15]
-    requires { n ≤ 15 }
-    ensures { result ≡ replicate n true ++ replicate (15 - n) false }
-{
-    let mut flags = [false; 15];
-    let mut i: usize = 0;
-    while i < n {
-        flags[i] = true;
-        i += 1;
-    }
-    flags
+    flags.iter().all(|flag| !*flag)
 }
 
 // The verdict on a message by the state of its two ends.
@@ -117,44 +74,40 @@ fn verdict_by(up: bool, receiver_cut: bool, sender_cut: bool) -> Verdict
     ensures { result ≡ verdict_by up receiver_cut sender_cut }
 {
     if !up {
-        return Verdict::ReceiverDown;
+        Verdict::ReceiverDown
+    } else if receiver_cut || sender_cut {
+        Verdict::CutOff
+    } else {
+        Verdict::Deliver
     }
-    if receiver_cut {
-        return Verdict::CutOff;
-    }
-    if sender_cut {
-        return Verdict::CutOff;
-    }
-    Verdict::Deliver
 }
 
-// What a fault that is not refused answers.
-fn answer(fault: Fault, draws: &[u64]) -> Outcome
+// What a fault that is not refused answers: a reboot the first draw as its nonce.
+fn nonce_of(fault: Fault, draws: &[u64]) -> Result<Option<u64>, Refusal>
     ensures { result ≡ answered fault draws.now }
 {
     let Fault::Reboot(_) = fault else {
-        return Outcome::Done;
+        return Ok(None);
     };
-    if draws.len() == 0 {
-        return Outcome::Refused(Refusal::NoNonce);
-    }
-    Outcome::Nonce(draws[0])
+    let nonce = draws.first().ok_or(Refusal::NoNonce)?;
+    Ok(Some(*nonce))
 }
 
 impl Plants {
     // Fresh plants: all n up, none partitioned, nothing counted.
-    pub fn new(n: usize) -> Next
+    #[tactic(auto, using(basis::proofs::Laws::between), unfolding(crate::specs::State::new_plants))]
+    pub fn new(n: usize) -> After<Plants, Result<Option<u64>, Refusal>>
         ensures { result ≡ new_plants n }
     {
         if !basis::plant_count(n) {
-            return Next {
-                plants: Plants::fresh(0),
-                outcome: Outcome::Refused(Refusal::PlantCount),
+            return After {
+                state: Plants::fresh(0),
+                answer: Err(Refusal::PlantCount),
             };
         }
-        Next {
-            plants: Plants::fresh(n),
-            outcome: Outcome::Done,
+        After {
+            state: Plants::fresh(n),
+            answer: Ok(None),
         }
     }
 
@@ -163,12 +116,13 @@ impl Plants {
         requires { n ≤ 15 }
         ensures { result ≡ fresh_plants n }
     {
-        let up = first_set(n);
+        let mut up = [false; MOST];
+        up[..n].fill(true);
         Plants {
             n,
             up,
-            partitioned: [false; 15],
-            stable_until: [0; 15],
+            partitioned: [false; MOST],
+            stable_until: [0; MOST],
             crashes: 0,
             restarts: 0,
             reboots: 0,
@@ -176,110 +130,105 @@ impl Plants {
     }
 
     // Tests the state itself, as every call does first.
-    pub fn test(self) -> Test
+    #[tactic(auto, using(basis::proofs::Laws::between), unfolding(crate::specs::State::tested))]
+    pub fn test(self) -> Result<(), Refusal>
         ensures { result ≡ tested self }
     {
-        let n = self.n;
-        if !basis::plant_count(n) {
-            return Test::Failed(Refusal::PlantCount);
+        if !basis::plant_count(self.n) {
+            return Err(Refusal::PlantCount);
         }
-        if !none_set(&self.up, n) {
-            return Test::Failed(Refusal::IllFormed);
+        if !self.is_formed() {
+            return Err(Refusal::IllFormed);
         }
-        if !none_set(&self.partitioned, n) {
-            return Test::Failed(Refusal::IllFormed);
-        }
-        if !self.counts_fit() {
-            return Test::Failed(Refusal::IllFormed);
-        }
-        Test::Passed
+        Ok(())
+    }
+
+    // Whether no flag is set past the last plant, and no count is over the limit.
+    #[tactic(auto, unfolding(crate::specs::State::plants_formed))]
+    fn is_formed(self) -> bool
+        requires { self.n ≤ 15 }
+        ensures { result ≡ plants_formed self }
+    {
+        none_set(&self.up[self.n..]) && none_set(&self.partitioned[self.n..]) && self.counts_fit()
     }
 
     // Whether no count is over the limit.
+    #[tactic(auto, unfolding(crate::specs::State::counts_fit))]
     pub fn counts_fit(self) -> bool
         ensures { result ≡ counts_fit self }
     {
-        if LIMIT < self.crashes {
-            return false;
-        }
-        if LIMIT < self.restarts {
-            return false;
-        }
-        self.reboots <= LIMIT
+        self.crashes <= LIMIT && self.restarts <= LIMIT && self.reboots <= LIMIT
     }
 
     // Whether a fault names one of the plants, or needs none.
+    #[tactic(auto, using(crate::proofs::Counting::needs_none, crate::proofs::Counting::knows_id))]
     fn knows(self, fault: Fault) -> bool
         ensures { result ≡ knows self fault }
     {
-        if !fault.needs_id() {
-            return true;
-        }
-        let n = self.n as u64;
-        fault.id() < n
+        !fault.needs_id() || fault.id() < self.n as u64
     }
 
     // A crash counts only if the plant is up.
-    fn crashed(self, id: usize, tick: u64) -> Plants
+    #[tactic(auto, unfolding(crate::specs::Faults::after_fault))]
+    fn crashed(mut self, id: usize, tick: u64) -> Plants
         requires { (id < 15) × (self.crashes ≤ limit) }
         ensures { result ≡ after_fault self tick (Fault.Crash id) }
     {
-        let mut me = self;
-        let was_up = me.up[id];
-        me.crashes = me.crashes + basis::flag_word(was_up);
-        me.up[id] = false;
-        me.stable_until[id] = tick;
-        me
+        self.crashes += u64::from(self.up[id]);
+        self.up[id] = false;
+        self.stable_until[id] = tick;
+        self
     }
 
     // A restart counts only if the plant is down.
-    fn restarted(self, id: usize, tick: u64) -> Plants
+    #[tactic(auto, unfolding(crate::specs::Faults::after_fault))]
+    fn restarted(mut self, id: usize, tick: u64) -> Plants
         requires { (id < 15) × (self.restarts ≤ limit) }
         ensures { result ≡ after_fault self tick (Fault.Restart id) }
     {
-        let mut me = self;
-        let was_up = me.up[id];
-        me.restarts = me.restarts + basis::flag_word(!was_up);
-        me.up[id] = true;
-        me.stable_until[id] = tick;
-        me
+        self.restarts += u64::from(!self.up[id]);
+        self.up[id] = true;
+        self.stable_until[id] = tick;
+        self
     }
 
     // A reboot always counts, as a reboot and as a restart.
-    fn rebooted(self, id: usize, tick: u64) -> Plants
+    #[tactic(auto, unfolding(crate::specs::Faults::after_fault))]
+    fn rebooted(mut self, id: usize, tick: u64) -> Plants
         requires { (id < 15) × (self.restarts ≤ limit) × (self.reboots ≤ limit) }
         ensures { result ≡ after_fault self tick (Fault.Reboot id) }
     {
-        let mut me = self;
-        me.restarts = me.restarts + 1;
-        me.reboots = me.reboots + 1;
-        me.up[id] = true;
-        me.stable_until[id] = tick;
-        me
+        self.restarts += 1;
+        self.reboots += 1;
+        self.up[id] = true;
+        self.stable_until[id] = tick;
+        self
     }
 
     // One plant cut off, or reconnected.
-    fn parted(self, id: usize, flag: bool) -> Plants
+    fn parted(mut self, id: usize, flag: bool) -> Plants
         requires { id < 15 }
         ensures { result ≡ parted self (set self.partitioned id flag) }
     {
-        let mut me = self;
-        me.partitioned[id] = flag;
-        me
+        self.partitioned[id] = flag;
+        self
     }
 
     // Every plant reconnected.
+    #[tactic(auto, unfolding(crate::specs::Faults::after_fault))]
     fn healed(self) -> Plants
         ensures { result ≡ after_fault self 0 Fault.HealAll }
     {
-        let mut me = self;
-        me.partitioned = [false; 15];
-        me
+        Plants {
+            partitioned: [false; MOST],
+            ..self
+        }
     }
 
     // The plants after a fault.
+    #[tactic(auto, unfolding(crate::specs::Faults::after_fault))]
     fn after(self, tick: u64, fault: Fault) -> Plants
-        requires { (tested self ≡ Test.Passed) × (knows self fault ≡ true) }
+        requires { (tested self ≡ Ok tt) × (knows self fault ≡ true) }
         ensures { result ≡ after_fault self tick fault }
     {
         match fault {
@@ -292,72 +241,77 @@ impl Plants {
         }
     }
 
-    // Injects a fault at a tick. A reboot uses the first of the lent draws, and answers it as the
-    // plant's nonce.
-    pub fn apply(self, tick: u64, fault: Fault, draws: &[u64]) -> Next
-        ensures { result ≡ applied self tick fault draws.now }
+    // The plants after a fault and its answer, if no test refuses it.
+    #[tactic(auto, using(crate::proofs::Testing::nonce_drawn, crate::proofs::Testing::nonce_missing), unfolding(crate::specs::Faults::applied, crate::specs::Faults::fault_tested))]
+    fn faulted(
+        self,
+        tick: u64,
+        fault: Fault,
+        draws: &[u64],
+    ) -> Result<(Plants, Option<u64>), Refusal>
+        ensures { MatchResult result
+            (λ next. applied self tick fault draws.now ≡ record { state = next.0; answer = Ok next.1 })
+            (λ refusal. applied self tick fault draws.now ≡ record { state = self; answer = Err refusal }) }
     {
-        if let Test::Failed(refusal) = self.test() {
-            return Next {
-                plants: self,
-                outcome: Outcome::Refused(refusal),
-            };
-        }
+        self.test()?;
         if !self.knows(fault) {
-            return Next {
-                plants: self,
-                outcome: Outcome::Refused(Refusal::UnknownPlant),
-            };
+            return Err(Refusal::UnknownPlant);
         }
         let next = self.after(tick, fault);
         if !next.counts_fit() {
-            return Next {
-                plants: self,
-                outcome: Outcome::Refused(Refusal::CountFull),
-            };
+            return Err(Refusal::CountFull);
         }
-        let outcome = answer(fault, draws);
-        if let Outcome::Refused(_) = outcome {
-            return Next {
-                plants: self,
-                outcome,
-            };
+        let nonce = nonce_of(fault, draws)?;
+        Ok((next, nonce))
+    }
+
+    // Injects a fault at a tick. A reboot uses the first of the lent draws, and answers it as the
+    // plant's nonce. After a refusal the plants are as they came.
+    pub fn apply(
+        self,
+        tick: u64,
+        fault: Fault,
+        draws: &[u64],
+    ) -> After<Plants, Result<Option<u64>, Refusal>>
+        ensures { result ≡ applied self tick fault draws.now }
+    {
+        match self.faulted(tick, fault, draws) {
+            Ok((state, nonce)) => After {
+                state,
+                answer: Ok(nonce),
+            },
+            Err(refusal) => After {
+                state: self,
+                answer: Err(refusal),
+            },
         }
-        Next {
-            plants: next,
-            outcome,
+    }
+
+    // The place of a plant, if it is one of them.
+    fn place(self, id: u64) -> Result<usize, Refusal>
+        ensures { result ≡ cond (ltb id self.n) (Ok id) (Err Refusal.UnknownPlant) }
+    {
+        if id < self.n as u64 {
+            Ok(id as usize)
+        } else {
+            Err(Refusal::UnknownPlant)
         }
     }
 
     // What becomes of a message that is due at plant `to`.
-    pub fn verdict(self, from: Origin, to: u64) -> Judged
+    #[tactic(auto, using(crate::proofs::Testing::bounds), unfolding(crate::specs::Verdicts::verdict_given, crate::specs::Verdicts::verdict_tested))]
+    pub fn verdict(self, from: Origin, to: u64) -> Result<Verdict, Refusal>
         ensures { result ≡ verdict_given self from to }
     {
-        if let Test::Failed(refusal) = self.test() {
-            return Judged::Refused(refusal);
-        }
-        let n = self.n as u64;
-        if n <= to {
-            return Judged::Refused(Refusal::UnknownPlant);
-        }
-        let receiver = to as usize;
-        match from {
+        self.test()?;
+        let receiver = self.place(to)?;
+        let sender_cut = match from {
             Origin::Replica(id) => {
-                if n <= id {
-                    return Judged::Refused(Refusal::UnknownPlant);
-                }
-                let sender = id as usize;
-                Judged::Is(verdict_by(
-                    self.up[receiver],
-                    self.partitioned[receiver],
-                    self.partitioned[sender],
-                ))
+                let sender = self.place(id)?;
+                self.partitioned[sender]
             }
-            Origin::Client(_) => Judged::Is(verdict_by(
-                self.up[receiver],
-                self.partitioned[receiver],
-                false,
-            )),
-        }
+            Origin::Client(_) => false,
+        };
+        Ok(verdict_by(self.up[receiver], self.partitioned[receiver], sender_cut))
     }
 }

@@ -25,13 +25,6 @@ pub enum Refusal {
     TooFewHealthy,
 }
 
-// What a test finds.
-#[derive(Clone, Copy)]
-pub enum Test {
-    Passed,
-    Failed(Refusal),
-}
-
 impl Refusal {
     // Its number in the rules.
     pub fn number(self) -> u64

@@ -2,5 +2,4 @@
 pub mod Writing
 pub mod Walking
 pub mod Storing
-pub mod Shaping
 pub mod Laws

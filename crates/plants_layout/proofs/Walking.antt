@@ -1,16 +1,16 @@
 -- A state's words read one by one: its flags, its ticks, and whether each flag is 0 or 1. Assumes nothing.
-use Prim.Native.Nat.{ℕ, suc, ◌+◌, ◌-◌, ◌≤◌, ◌<◌}
+use Prim.Native.Nat.{ℕ, ◌+◌, ◌≤◌, ◌<◌}
 use mathlib.Core.Path.{◌≡◌, refl, sym, ap, ◌∙◌}
 use mathlib.Core.Bool.{Bool, true, false, ◌&&◌, and-true, and_assoc}
-use mathlib.Core.List.{List}
+use mathlib.Core.List.{List, [], ◌∷◌}
+use Rattle.std.specs.List.{fold}
 use native.Mathlib.Omega.{arith}
-use native.Mathlib.Numerals.{add-one}
 use borrow.Author.Tests.{le-leb, lt-leb, leb-true, leb-false}
 use lib.Bits.{bit_or, or_lt, or_add_and, and_le_l, and_le_r}
 use mir.Val.{bool_byte}
 use lib.Dec.{leb, eqb}
 use lib.ListN.{length, take, drop, get_or, length-take, length-drop, length-map, get_or-map}
-use lib.Seq.{drop-cons, get_or-take, get_or-drop}
+use lib.Seq.{get_or-take, get_or-drop}
 use Rattle.basis.specs.Basis.{bit}
 use Rattle.plants_layout.specs.Layout.{flag_of, flags_in, bits, all_bits}
 
@@ -48,20 +48,9 @@ or_small true true a x e f = le-leb (bit_or a x) 1 (omega (arith, or_lt 1 a x (o
 or_small true false a x e f = lt-leb (bit_or a x) 1 (omega (arith, leb-false x 1 f, or_add_and a x, and_le_l a x))
 or_small false c a x e f = lt-leb (bit_or a x) 1 (omega (arith, leb-false a 1 e, or_add_and a x, and_le_r a x))
 
--- the words from i up to 31
-module _ (w : List ℕ) (i : ℕ) (h : i < 31) (e : 31 ≤ length w) where
-  next_flag : all_bits (take (31 - i) (drop i w)) ≡ leb (get_or w i 0) 1 && all_bits (take (31 - (i + 1)) (drop (i + 1) w))
-  unfolding all_bits
-  next_flag =
-      let z : 31 - i ≡ suc (31 - suc i) = omega arith in rw (z, add-one i, drop-cons w i 0 (omega arith))
-
-  pub gathers : (a : ℕ) → leb a 1 && all_bits (take (31 - i) (drop i w)) ≡ leb (bit_or a (get_or w i 0)) 1 && all_bits (take (31 - (i + 1)) (drop (i + 1) w))
-  gathers a =
-      let rest = all_bits (take (31 - (i + 1)) (drop (i + 1) w)) in
-      ap (λ (b : Bool). leb a 1 && b) next_flag
-      ∙ (sym (and_assoc (leb a 1) (leb (get_or w i 0) 1) rest)
-      ∙ ap (λ (b : Bool). b && rest) (sym (or_small (leb a 1) (leb (get_or w i 0) 1) a (get_or w i 0) refl refl)))
-
-pub all_gathered : (w : List ℕ) (i a : ℕ) → 31 ≤ i → leb a 1 && all_bits (take (31 - i) (drop i w)) ≡ leb a 1
+pub gathers : (ws : List ℕ) (a : ℕ) → leb (fold bit_or a ws) 1 ≡ (leb a 1 && all_bits ws)
 unfolding all_bits
-all_gathered w i a h = let z : 31 - i ≡ 0 = omega arith in rw z (and-true (leb a 1))
+gathers [] a = sym (and-true (leb a 1))
+gathers (w ∷ ws) a =
+    gathers ws (bit_or a w)
+    ∙ (ap (λ (b : Bool). b && all_bits ws) (or_small (leb a 1) (leb w 1) a w refl refl) ∙ and_assoc (leb a 1) (leb w 1) (all_bits ws))

@@ -41,9 +41,3 @@ pub two_and_more : (d s : List ℕ) (a b : ℕ) → length d ≡ length s + 2 �
 two_and_more [] s a b e = absurd (omega arith)
 two_and_more (x ∷ []) s a b e = absurd (omega arith)
 two_and_more (x ∷ y ∷ d) s a b e = ap (λ (l : List ℕ). a ∷ b ∷ l) (ap (λ (l : List ℕ). s ++ l) (drop_of_length-le (a ∷ b ∷ d) {i = length (x ∷ y ∷ d)} (omega arith)) ∙ append-nil s)
-
--- a row of one word
-pub only_word : (l : List ℕ) (a : ℕ) → length l ≡ 1 → set l 0 a ≡ a ∷ []
-only_word [] a e = absurd (omega arith)
-only_word (x ∷ []) a e = refl
-only_word (x ∷ y ∷ l) a e = absurd (omega arith)

@@ -1,12 +1,15 @@
 -- The 49 words of a state of plants, as the host lends them: n; 15 flags up; 15 flags partitioned; 15 ticks; crashes, restarts,
 -- reboots. Words that name no case have a refusal of their own. Assumes nothing.
-use Rattle.std.specs.Prelude.{ℕ, ◌+◌, ◌*◌, Bool, true, cond, ◌&&◌, List, [], ◌∷◌, ◌++◌, map, leb, eqb, get_or, take, drop}
+use Rattle.std.specs.Prelude.{ℕ, ◌+◌, ◌*◌, Bool, true, cond, ◌&&◌, List, [], ◌∷◌, ◌++◌, map, leb, eqb, get_or, take, drop, Result}
 use Rattle.script.specs.declared.fault.Fault.{Fault}
 use Rattle.script.specs.declared.fault.Fault.TheVariants.{Crash, Restart, Reboot, Partition, Heal, HealAll}
 use Rattle.basis.specs.Basis.{most, plant_count, bit}
+use Rattle.plants.specs.Refusals.{must, ◌then◌}
 use Rattle.plants.specs.declared.Plants.{Plants}
 use Rattle.plants.specs.declared.Origin.{Origin}
 use Rattle.plants.specs.declared.Origin.TheVariants.{Replica, Client}
+use Rattle.plants.specs.declared.refusal.Refusal.{Refusal}
+use Rattle.plants.specs.declared.refusal.Refusal.TheVariants.{PlantCount, IllFormed}
 
 -- where the parts of a state stand, behind n, and how many words it has
 abbrev pub up_at : ℕ
@@ -72,6 +75,10 @@ plants_in w =
 abbrev pub state_words : Plants → List ℕ
 state_words s =
     s.n ∷ (bits s.up ++ (bits s.partitioned ++ (s.stable_until ++ (s.crashes ∷ s.restarts ∷ s.reboots ∷ []))))
+
+-- the tests of the words themselves: n is 3 to 15, and each flag is 0 or 1
+unfoldable pub shape_tested : List ℕ → Result Unit Refusal
+shape_tested w = must (plant_count (get_or w 0 0)) PlantCount then must (flag_words_fit w) IllFormed
 
 -- what the words themselves answer, 0 if nothing: n is not 3 to 15, or a flag is neither 0 nor 1
 unfoldable pub shaped : List ℕ → ℕ

@@ -1,44 +1,45 @@
 -- One turn of each loop: what is left of a list, taken apart at its first element. Assumes nothing.
-use mathlib.Core.Bool.{Bool, true, false, cond}
+use mathlib.Core.Bool.{Bool, true, cond, ◌&&◌}
 use mathlib.Core.List.{List, [], ◌∷◌, ◌++◌, append_assoc, append-nil}
-use mathlib.Core.Path.{◌≡◌, sym, ap, ◌∙◌}
+use mathlib.Core.Path.{◌≡◌, refl, sym, ap, ◌∙◌}
 use Prim.Native.Nat.{ℕ, zero, suc, ◌+◌, ◌-◌, ◌≤◌, ◌<◌}
 use native.Mathlib.Omega.{arith}
 use native.Mathlib.Nat.{add-zero, sub-zero, zero-sub}
 use native.Mathlib.Numerals.{add-one}
-use borrow.Author.Tests.{le-leb, lt-leb, leb-true}
-use lib.Dec.{leb}
-use lib.ListN.{length, take, drop, get_or, set, replicate, drop_of_length-le, length-append}
+use borrow.Author.Tests.{leb-true}
+use lib.Dec.{leb, eqb}
+use Rattle.std.specs.List.{list_all, count_by, range_with_len, swap}
+use Rattle.std.proofs.lemmas.List.Edits.{swap_is}
+use Rattle.std.proofs.lemmas.List.Sums.{sum_by-cons}
+use lib.ListN.{length, take, drop, get_or, set, replicate, length-append}
 use lib.Seq.{drop-cons, drop-drop, get_or-drop, set_at, length-take-le, take_all}
 use Rattle.basis.specs.Basis.{bit}
 use Rattle.basis.proofs.Laws.{both}
 use Rattle.plants_lineup.specs.Shuffle.{swapped, shuffled_from, picks_within}
-use Rattle.plants_lineup.specs.Core.{ids_from, those, tally, recovering_fit}
+use Rattle.plants_lineup.specs.Core.{ids_from, those, tally, is_healthy, recovering_fit, healthy_count}
 use Rattle.plants_lineup.proofs.Tallies.{tally-cons, tally_parts, those_more}
-use Rattle.plants_lineup.proofs.Ids.{peel}
 
 -- ---- flags
-module _ (flags : List ℕ) (i : ℕ) where
-  pub flag_fits : i < length flags → get_or flags i 0 ≤ 1 → recovering_fit (drop i flags) ≡ recovering_fit (drop (i + 1) flags)
-  unfolding recovering_fit
-  flag_fits h e = rw (add-one i, drop-cons flags i 0 h, le-leb (get_or flags i 0) 1 e)
+pub fit_by_all : (flags : List ℕ) → list_all (λ f. leb f 1) flags ≡ recovering_fit flags
+unfolding recovering_fit
+fit_by_all [] = refl
+fit_by_all (f ∷ flags) = ap (λ b. leb f 1 && b) (fit_by_all flags)
 
-  pub flag_over : i < length flags → 1 < get_or flags i 0 → recovering_fit (drop i flags) ≡ false
-  unfolding recovering_fit
-  flag_over h e = rw (drop-cons flags i 0 h, lt-leb (get_or flags i 0) 1 e)
-
-  pub flags_end : length flags ≤ i → recovering_fit (drop i flags) ≡ true
-  unfolding recovering_fit
-  flags_end h = rw (drop_of_length-le flags h)
-
--- ---- how many plants from i up to n pass a test
-module _ (test : ℕ → Bool) (n i : ℕ) where
-  pub tally_next : (b : Bool) → i < n → test i ≡ b → tally test (ids_from i (n - i)) ≡ bit b + tally test (ids_from (i + 1) (n - (i + 1)))
-  tally_next b h e = rw (peel n i h, tally-cons test i (ids_from (i + 1) (n - (i + 1))), e)
-
-  pub tally_end : n ≤ i → tally test (ids_from i (n - i)) ≡ 0
+-- ---- how many of the flags from i on are 0
+module _ (flags : List ℕ) where
+  healthy_from : (rest : List ℕ) (i : ℕ) → drop i flags ≡ rest → count_by (λ f. eqb f 0) rest ≡ tally (is_healthy flags) (ids_from i (length rest))
   unfolding ids_from those
-  tally_end h = let z : n - i ≡ 0 = omega arith in rw z
+  healthy_from [] i e = refl
+  healthy_from (f ∷ rest) i e =
+      let here : get_or flags i 0 ≡ f = sym (get_or-drop i flags 0 0 ∙ ap (λ (k : ℕ). get_or flags k 0) (add-zero i)) ∙ ap (λ (l : List ℕ). get_or l 0 0) e in
+      let next : drop (suc i) flags ≡ rest = ap (λ (k : ℕ). drop k flags) (sym (add-one i)) ∙ (sym (drop-drop 1 i flags) ∙ ap (drop 1) e) in
+      sum_by-cons (λ x. bit (eqb x 0)) f rest ∙ (ap (λ (n : ℕ). bit (eqb f 0) + n) (healthy_from rest (suc i) next)
+      ∙ (ap (λ (x : ℕ). bit (eqb x 0) + tally (is_healthy flags) (ids_from (suc i) (length rest))) (sym here)
+      ∙ sym (tally-cons (is_healthy flags) i (ids_from (suc i) (length rest)))))
+
+pub healthy_by_count : (flags : List ℕ) → count_by (λ f. eqb f 0) flags ≡ healthy_count (length flags) flags
+unfolding healthy_count
+healthy_by_count flags = healthy_from flags flags 0 refl
 
 -- ---- picks, with i still to come down and `at` of them used
 module _ (picks : List ℕ) (i at : ℕ) (h : 0 < i) where
@@ -47,16 +48,6 @@ module _ (picks : List ℕ) (i at : ℕ) (h : 0 < i) where
 
   first : get_or (drop at picks) 0 0 ≡ get_or picks at 0
   first = get_or-drop at picks 0 0 ∙ ap (λ (k : ℕ). get_or picks k 0) (add-zero at)
-
-  pub pick_within : get_or picks at 0 ≤ i → picks_within i (drop at picks) ≡ picks_within (i - 1) (drop (at + 1) picks)
-  unfolding picks_within
-  pick_within e =
-      ap (λ (k : ℕ). picks_within k (drop at picks)) here
-      ∙ rw (first, ← here, le-leb (get_or picks at 0) i e, drop-drop 1 at picks)
-
-  pub pick_over : i < get_or picks at 0 → picks_within i (drop at picks) ≡ false
-  unfolding picks_within
-  pick_over e = ap (λ (k : ℕ). picks_within k (drop at picks)) here ∙ rw (first, ← here, lt-leb (get_or picks at 0) i e)
 
   pub one_swap : (l : List ℕ) → shuffled_from i (drop at picks) l ≡ shuffled_from (i - 1) (drop (at + 1) picks) (swapped l i (get_or picks at 0))
   unfolding shuffled_from
@@ -71,6 +62,34 @@ module _ (picks : List ℕ) (i at : ℕ) (h : 0 < i) where
       let w = both (leb (get_or (drop at picks) 0 0) (suc (i - 1))) (picks_within (i - 1) (drop 1 (drop at picks))) f in
       let j = leb-true (get_or (drop at picks) 0 0) (suc (i - 1)) w.0 in
       (omega (arith, first), ap (picks_within (i - 1)) (sym (drop-drop 1 at picks)) ∙ w.1)
+
+-- the picks from a place on, each with its range
+pub within_by_all : (picks : List ℕ) (last k at : ℕ) → at + k ≡ last
+    → list_all (λ (n : ℕ). leb (get_or picks n 0) (last - n)) (range_with_len at k) ≡ picks_within k (drop at picks)
+unfolding picks_within
+within_by_all picks last zero at e = refl
+within_by_all picks last (suc k) at e =
+    let left : last - at ≡ suc k = omega arith in
+    let here : get_or (drop at picks) 0 0 ≡ get_or picks at 0 = get_or-drop at picks 0 0 ∙ ap (λ (n : ℕ). get_or picks n 0) (add-zero at) in
+    let rest = within_by_all picks last k (at + 1) (omega arith) ∙ ap (picks_within k) (sym (drop-drop 1 at picks)) in
+    λ t. leb (sym here t) (left t) && rest t
+
+-- one turn of a shuffle
+pub shuffle_step : (picks l : List ℕ) (last at : ℕ) → at < last → last < length l → picks_within (last - at) (drop at picks) ≡ true
+    → (get_or picks at 0 ≤ last - at)
+    × ((picks_within (last - (at + 1)) (drop (at + 1) picks) ≡ true)
+    × (shuffled_from (last - at) (drop at picks) l ≡ shuffled_from (last - (at + 1)) (drop (at + 1) picks) (swap l (last - at) (get_or picks at 0))))
+shuffle_step picks l last at h k e =
+    let i = last - at in
+    let less : i - 1 ≡ last - (at + 1) = omega arith in
+    let w = pick_fits picks i at (omega arith) e in (
+      w.0,
+      (
+        ap (λ (n : ℕ). picks_within n (drop (at + 1) picks)) (sym less) ∙ w.1,
+        one_swap picks i at (omega arith) l
+            ∙ (λ t. shuffled_from (less t) (drop (at + 1) picks) (swap_is l i (get_or picks at 0) 0 (omega arith) (omega (arith, w.0)) t)),
+      ),
+    )
 
 -- ---- a list written from the front: those that are there, how many they are, and what was there behind them
 abbrev pub Written : List ℕ → List ℕ → ℕ → List ℕ → Type 0

@@ -11,29 +11,14 @@ ghost use Rattle.plants_lineup.specs.Core.{ids_from, those, tally, has_flag, is_
 pub fn flags_fit(flags: &[u64]) -> bool
     ensures { result ≡ recovering_fit flags.now }
 {
-    let mut i: usize = 0;
-    while i < flags.len() {
-        if 1 < flags[i] {
-            return false;
-        }
-        i += 1;
-    }
-    true
+    flags.iter().all(|flag| *flag <= 1)
 }
 
 // How many plants are healthy, of as many as there are flags.
 pub fn healthy_count(flags: &[u64]) -> usize
     ensures { result ≡ healthy_count (length flags.now) flags.now }
 {
-    let mut count: usize = 0;
-    let mut i: usize = 0;
-    while i < flags.len() {
-        if flags[i] == 0 {
-            count += 1;
-        }
-        i += 1;
-    }
-    count
+    flags.iter().filter(|flag| **flag == 0).count()
 }
 
 // Whether for i from a place down to 1 the next pick is 0..i.
@@ -41,27 +26,15 @@ pub fn picks_within(picks: &[u64], last: usize) -> bool
     requires { last ≤ length picks.now }
     ensures { result ≡ picks_within last picks.now }
 {
-    let mut i = last;
-    let mut at: usize = 0;
-    while 0 < i {
-        let pick = picks[at] as usize;
-        if i < pick {
-            return false;
-        }
-        at += 1;
-        i -= 1;
-    }
-    true
+    (0..last).all(|at| picks[at] as usize <= last - at)
 }
 
 // Numbers the plants from 0.
 fn number(ids: &mut [u64])
     ensures { ids.new ≡ ids_from 0 (length ids.old) }
 {
-    let mut i: usize = 0;
-    while i < ids.len() {
-        ids[i] = i as u64;
-        i += 1;
+    for (i, id) in ids.iter_mut().enumerate() {
+        *id = i as u64;
     }
 }
 
@@ -70,16 +43,9 @@ fn shuffle(list: &mut [u64], picks: &[u64])
     requires { (1 ≤ length list.old) × (length list.old ≤ length picks.now + 1) × (picks_within (length list.old - 1) picks.now ≡ true) }
     ensures { list.new ≡ shuffled picks.now list.old }
 {
-    let mut i = list.len() - 1;
-    let mut at: usize = 0;
-    while 0 < i {
-        let j = picks[at] as usize;
-        let x = list[i];
-        let y = list[j];
-        list[i] = y;
-        list[j] = x;
-        at += 1;
-        i -= 1;
+    let last = list.len() - 1;
+    for at in 0..last {
+        list.swap(last - at, picks[at] as usize);
     }
 }
 
@@ -94,15 +60,11 @@ fn append(ids: &[u64], flags: &[u64], flag: u64, line: &mut [u64], at: usize) ->
         ++ drop (at + tally (has_flag flags.now flag) ids.now) line.old) }
 {
     let mut count = at;
-    let mut i: usize = 0;
-    while i < ids.len() {
-        let id = ids[i];
-        let place = id as usize;
-        if flags[place] == flag {
-            line[count] = id;
+    for id in ids {
+        if flags[*id as usize] == flag {
+            line[count] = *id;
             count += 1;
         }
-        i += 1;
     }
     count
 }

@@ -1,6 +1,6 @@
 -- The core where all tests passed: the front of the line, which has no plant twice and none of n or over; its flags, and its members gathered by
--- their flags. Then the choice, test by test. Assumes nothing.
-use mathlib.Core.Bool.{Bool, true, false, ◌&&◌}
+-- their flags. Assumes nothing.
+use mathlib.Core.Bool.{Bool, true, ◌&&◌}
 use mathlib.Core.List.{List, ◌++◌}
 use mathlib.Core.Path.{◌≡◌, sym, ap, ◌∙◌}
 use Prim.Native.Nat.{ℕ, ◌+◌, ◌-◌, ◌≤◌}
@@ -12,16 +12,9 @@ use lib.ListN.{length, take, drop, replicate, length-append, length-drop}
 use lib.Seq.{length-take-le, take-append-le}
 use Rattle.basis.specs.Basis.{most, quorum}
 use Rattle.basis.proofs.Laws.{both}
-use Rattle.plants.specs.State.{counts_fit}
-use Rattle.plants.specs.declared.Plants.{Plants}
-use Rattle.plants.specs.declared.refusal.Refusal.{Refusal}
-use Rattle.plants.specs.declared.refusal.Refusal.TheVariants.{CountFull}
-use Rattle.plants.specs.declared.refusal.Test.TheVariants.{Passed, Failed}
 use Rattle.plants_lineup.specs.Shuffle.{picks_within}
-use Rattle.plants_lineup.specs.Core.{size_picks, picks_used, first_picks, second_picks, core_size, picks_in_range, ids_from, those, tally, line_up, core_of}
-use Rattle.plants_liveness.specs.Choice.{member, in_core, is_set, up_after, settled, padded, lent_tested, choice_tested, chosen}
-use Rattle.plants_liveness.specs.declared.Chosen.{Chosen}
-use Rattle.plants_liveness.specs.declared.Choice.TheVariants.{Made, Refused}
+use Rattle.plants_lineup.specs.Core.{size_picks, first_picks, second_picks, core_size, picks_in_range, ids_from, those, tally, line_up, core_of}
+use Rattle.plants_liveness.specs.Choice.{member, in_core, is_set, up_after}
 use Rattle.plants_lineup.proofs.Tallies.{Permutation, tally_parts}
 use Rattle.plants_lineup.proofs.Ids.{ids_below, ids_once}
 use Rattle.plants_lineup.proofs.Lining.{line_permutes, line_length}
@@ -121,28 +114,3 @@ module _ (n : ℕ) (flags picks : List ℕ) (full : Bool) (r : Ready n flags pic
       front_is =
           (λ t. take (f t) (line_is t))
           ∙ take-append-le (core_size n picks full) (line_of n flags picks full) (replicate (most - n) 0) (omega (arith, in_range_lem.1, whole))
-
--- ---- the choice, test by test
-abbrev pub refused_with : Plants → Refusal → Chosen
-refused_with s r = record { plants = s; core = replicate most 0; choice = Refused r }
-
-module _ (s : Plants) (flags picks : List ℕ) (full : Bool) where
-  pub not_lent : (r : Refusal) → lent_tested s flags picks full ≡ Failed r → refused_with s r ≡ chosen s flags picks full
-  unfolding chosen choice_tested
-  not_lent r e = rw e
-
-  module _ (e : lent_tested s flags picks full ≡ Passed) where
-    pub count_full : counts_fit (settled s (core_of s.n flags picks full)) ≡ false → refused_with s CountFull ≡ chosen s flags picks full
-    unfolding chosen choice_tested
-    count_full f = rw (e, f)
-
-    pub made : counts_fit (settled s (core_of s.n flags picks full)) ≡ true
-        → ◌≡◌ {A = Chosen}
-        (record {
-          plants = settled s (core_of s.n flags picks full);
-          core = padded (core_of s.n flags picks full);
-          choice = Made (core_size s.n picks full) (picks_used s.n full);
-        })
-        (chosen s flags picks full)
-    unfolding chosen choice_tested
-    made f = rw (e, f)

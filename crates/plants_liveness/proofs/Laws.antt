@@ -4,7 +4,7 @@
 -- Assumes nothing.
 use mathlib.Core.Bool.{Bool, true, false, cond, not, ◌&&◌, and_comm}
 use mathlib.Core.List.{List, [], ◌∷◌, ◌++◌}
-use mathlib.Core.Path.{◌≡◌, refl, sym, ap, ◌∙◌}
+use mathlib.Core.Path.{◌≡◌, refl, ap, ◌∙◌}
 use Prim.Native.Nat.{ℕ, zero, suc, ◌+◌, ◌-◌, ◌≤◌, ◌<◌}
 use native.Mathlib.Nat.{zero-add}
 use native.Mathlib.Omega.{arith}
@@ -20,14 +20,12 @@ use Rattle.plants.specs.Faults.{is_up}
 use Rattle.plants.specs.declared.Plants.{Plants}
 use Rattle.plants.specs.declared.refusal.Refusal.{Refusal}
 use Rattle.plants.specs.declared.refusal.Refusal.TheVariants.{CountFull}
-use Rattle.plants.specs.declared.refusal.Test.{Test}
-use Rattle.plants.specs.declared.refusal.Test.TheVariants.{Passed, Failed}
-use Rattle.plants.proofs.Testing.{both_pass, holds, count_holds, form_holds, good, by_counts}
-use Rattle.plants.proofs.Laws.{none_past}
+use Rattle.std.specs.Prelude.{Result, Ok, Err}
+use Rattle.plants.proofs.Testing.{both_pass, holds, count_holds, form_holds}
+use Rattle.plants.proofs.Laws.{well_formed, none_past}
 use Rattle.plants_lineup.specs.Shuffle.{shuffled}
 use Rattle.plants_lineup.specs.Core.{size_picks, picks_used, first_picks, second_picks, core_size, ids_from, those, tally, is_healthy, candidates, filler, line_up, core_of}
 use Rattle.plants_liveness.specs.Choice.{member, in_core, up_after, settled, lent_tested, choice_tested, chosen_if, chosen}
-use Rattle.plants_liveness.specs.declared.Choice.TheVariants.{Refused}
 use Rattle.plants_lineup.proofs.Tallies.{none_counted, tally-cons, all_below, same_length, those_pass, front_passes, tally-append}
 use Rattle.plants_liveness.proofs.Marking.{length_flags, flag_of}
 use Rattle.plants_lineup.proofs.Lining.{dealt_length, healthy_enough, filler-length}
@@ -73,8 +71,8 @@ none_past_core n l e (suc d) a zero h = refl
 none_past_core n l e (suc d) a (suc k) h = none_past_core n l e d (suc a) k (omega arith)
 
 -- ---- a core that was chosen
-module _ (s : Plants) (flags picks : List ℕ) (full : Bool) (e : choice_tested s flags picks full ≡ Passed) where
-  parts : (lent_tested s flags picks full ≡ Passed) × (must (counts_fit (settled s (core_of s.n flags picks full))) CountFull ≡ Passed)
+module _ (s : Plants) (flags picks : List ℕ) (full : Bool) (e : choice_tested s flags picks full ≡ Ok tt) where
+  parts : (lent_tested s flags picks full ≡ Ok tt) × (must (counts_fit (settled s (core_of s.n flags picks full))) CountFull ≡ Ok tt)
   unfolding choice_tested
   parts = both_pass (lent_tested s flags picks full) (must (counts_fit (settled s (core_of s.n flags picks full))) CountFull) e
 
@@ -133,18 +131,18 @@ module _ (s : Plants) (flags picks : List ℕ) (full : Bool) (e : choice_tested 
       omega (arith, p, q)
 
   -- exactly the core's plants are up
-  pub core_is_up : (i : ℕ) → i < most → is_up (chosen s flags picks full).plants i ≡ member i (core_of s.n flags picks full)
+  pub core_is_up : (i : ℕ) → i < most → is_up (chosen s flags picks full).state i ≡ member i (core_of s.n flags picks full)
   unfolding chosen
   core_is_up i h = rw e (flag_of (core_of s.n flags picks full) 0 most i h ∙ ap (λ (x : ℕ). member x (core_of s.n flags picks full)) (zero-add i))
 
   -- and the state passes its tests
-  pub keeps_form : tested (chosen s flags picks full).plants ≡ Passed
+  pub keeps_form : tested (chosen s flags picks full).state ≡ Ok tt
   unfolding chosen
   keeps_form =
       let next = settled s (core_of s.n flags picks full) in
       let fits = holds (counts_fit next) CountFull parts.1 in
       let up = none_past_core s.n (core_of s.n flags picks full) none_over s.n 0 most (omega arith) in
-      rw e (sym (good next (count_holds s (lent_passed s flags picks full parts.0).0) (by_counts next up true (none_past s.n most) fits)))
+      rw e (well_formed next (count_holds s (lent_passed s flags picks full parts.0).0) up (none_past s.n most) fits)
 
   -- ---- the counts: a crash for each plant that was up and is not in the core, and a restart for each core plant that was down, of a state
   -- that has a flag for each of its n plants, as any that the code makes has
@@ -182,10 +180,10 @@ module _ (s : Plants) (flags picks : List ℕ) (full : Bool) (e : choice_tested 
 
 -- ---- a refusal hands the plants back as they came
 module _ (s : Plants) (flags picks : List ℕ) (full : Bool) where
-  hands_back : (t : Test) (r : Refusal) → (chosen_if t s flags picks full).choice ≡ Refused r → (chosen_if t s flags picks full).plants ≡ s
-  hands_back Passed r e = let z : ◌≡◌ {A = ℕ} 0 1 = cc in absurd (omega arith)
-  hands_back (Failed x) r e = refl
+  hands_back : (t : Result Unit Refusal) (r : Refusal) → (chosen_if t s flags picks full).answer ≡ Err r → (chosen_if t s flags picks full).state ≡ s
+  hands_back (Ok x) r e = cc
+  hands_back (Err x) r e = refl
 
-  pub refused_hands_back : (r : Refusal) → (chosen s flags picks full).choice ≡ Refused r → (chosen s flags picks full).plants ≡ s
+  pub refused_hands_back : (r : Refusal) → (chosen s flags picks full).answer ≡ Err r → (chosen s flags picks full).state ≡ s
   unfolding chosen
   refused_hands_back r e = hands_back (choice_tested s flags picks full) r e

@@ -1,9 +1,9 @@
--- The tests before the core is chosen, one by one, and what holds where all passed. Assumes nothing.
-use mathlib.Core.Bool.{Bool, true, false, ◌&&◌}
+-- What holds where all tests before the core is chosen passed. Assumes nothing.
+use mathlib.Core.Bool.{Bool, true, ◌&&◌}
 use mathlib.Core.List.{List}
 use mathlib.Core.Path.{◌≡◌}
-use Prim.Native.Nat.{ℕ, ◌≤◌, ◌<◌}
-use borrow.Author.Tests.{le-leb, lt-leb, leb-true, eq-eqb, ne_eqb, eqb-true}
+use Prim.Native.Nat.{ℕ, ◌≤◌}
+use borrow.Author.Tests.{leb-true, eqb-true}
 use lib.Dec.{leb, eqb}
 use lib.ListN.{length}
 use Rattle.plants.specs.Refusals.{must, ◌then◌}
@@ -11,45 +11,11 @@ use Rattle.basis.specs.Basis.{fewest, most, quorum}
 use Rattle.basis.proofs.Laws.{both}
 use Rattle.plants.specs.State.{tested}
 use Rattle.plants.specs.declared.Plants.{Plants}
-use Rattle.plants.specs.declared.refusal.Refusal.{Refusal}
 use Rattle.plants.specs.declared.refusal.Refusal.TheVariants.{BadFlags, TooFewHealthy, TooFewPicks, PickOutOfRange}
-use Rattle.plants.specs.declared.refusal.Test.TheVariants.{Passed, Failed}
+use Rattle.std.specs.Prelude.{Ok}
 use Rattle.plants.proofs.Testing.{both_pass, holds, bounds}
 use Rattle.plants_lineup.specs.Core.{picks_used, picks_in_range, recovering_fit, healthy_count}
 use Rattle.plants_liveness.specs.Choice.{lent_tested}
-
-module _ (s : Plants) (flags picks : List ℕ) (full : Bool) where
-  pub bad_state : (r : Refusal) → tested s ≡ Failed r → Failed r ≡ lent_tested s flags picks full
-  unfolding lent_tested
-  bad_state r e = rw e
-
-  module _ (e : tested s ≡ Passed) where
-    pub other_length : (length flags ≡ s.n → ⊥) → Failed BadFlags ≡ lent_tested s flags picks full
-    unfolding lent_tested
-    other_length h = rw (e, ne_eqb (length flags) s.n h)
-
-    module _ (m : length flags ≡ s.n) where
-      pub flag_over : recovering_fit flags ≡ false → Failed BadFlags ≡ lent_tested s flags picks full
-      unfolding lent_tested
-      flag_over f = rw (e, eq-eqb (length flags) s.n m, f)
-
-      module _ (f : recovering_fit flags ≡ true) where
-        pub too_few_healthy : healthy_count s.n flags < quorum s.n → Failed TooFewHealthy ≡ lent_tested s flags picks full
-        unfolding lent_tested
-        too_few_healthy h = rw (e, eq-eqb (length flags) s.n m, f, lt-leb (quorum s.n) (healthy_count s.n flags) h)
-
-        module _ (h : quorum s.n ≤ healthy_count s.n flags) where
-          pub too_few_picks : length picks < picks_used s.n full → Failed TooFewPicks ≡ lent_tested s flags picks full
-          unfolding lent_tested
-          too_few_picks k =
-              rw
-              (e, eq-eqb (length flags) s.n m, f, le-leb (quorum s.n) (healthy_count s.n flags) h, lt-leb (picks_used s.n full) (length picks) k)
-
-          pub by_range : (b : Bool) → picks_used s.n full ≤ length picks → picks_in_range s.n picks full ≡ b → must b PickOutOfRange ≡ lent_tested s flags picks full
-          unfolding lent_tested
-          by_range b k r =
-              rw
-              (e, eq-eqb (length flags) s.n m, f, le-leb (quorum s.n) (healthy_count s.n flags) h, le-leb (picks_used s.n full) (length picks) k, r)
 
 -- what n plants, their flags and the picks are where all tests passed
 pub record Ready (n : ℕ) (flags picks : List ℕ) (full : Bool) : Type 0 where
@@ -61,7 +27,7 @@ pub record Ready (n : ℕ) (flags picks : List ℕ) (full : Bool) : Type 0 where
   pub enough : picks_used n full ≤ length picks
   pub within : picks_in_range n picks full ≡ true
 
-pub lent_passed : (s : Plants) (flags picks : List ℕ) (full : Bool) → lent_tested s flags picks full ≡ Passed → (tested s ≡ Passed) × Ready s.n flags picks full
+pub lent_passed : (s : Plants) (flags picks : List ℕ) (full : Bool) → lent_tested s flags picks full ≡ Ok tt → (tested s ≡ Ok tt) × Ready s.n flags picks full
 unfolding lent_tested
 lent_passed s flags picks full e =
     let range = must (picks_in_range s.n picks full) PickOutOfRange in

@@ -1,16 +1,15 @@
 -- The choice of the core with its refusals, and the plants after it (RULES, "Plants and core" and "Refusal numbers"). Partitions clear; core
 -- plants that were down come up, a restart, and others that were up go down, a crash; stable-until stays. Assumes nothing.
-use Rattle.std.specs.Prelude.{Bool, false, not, ◌&&◌, ◌||◌, List, [], ◌∷◌, ◌++◌, ℕ, zero, suc, ◌+◌, ◌-◌, leb, eqb, length, get_or, replicate}
+use Rattle.std.specs.Prelude.{Bool, false, not, ◌&&◌, ◌||◌, List, [], ◌∷◌, ◌++◌, ℕ, zero, suc, ◌+◌, ◌-◌, leb, eqb, length, get_or, replicate, Result, Ok, Err}
 use Rattle.plants.specs.Refusals.{must, ◌then◌}
 use Rattle.basis.specs.Basis.{most, bit, quorum}
 use Rattle.plants.specs.State.{tested, counts_fit}
 use Rattle.plants.specs.declared.Plants.{Plants}
+use Rattle.calls.specs.declared.After.{After}
+use Rattle.plants.specs.declared.refusal.Refusal.{Refusal}
 use Rattle.plants.specs.declared.refusal.Refusal.TheVariants.{CountFull, BadFlags, TooFewPicks, PickOutOfRange, TooFewHealthy}
-use Rattle.plants.specs.declared.refusal.Test.{Test}
-use Rattle.plants.specs.declared.refusal.Test.TheVariants.{Passed, Failed}
 use Rattle.plants_lineup.specs.Core.{picks_used, core_size, picks_in_range, recovering_fit, healthy_count, core_of}
-use Rattle.plants_liveness.specs.declared.Chosen.{Chosen}
-use Rattle.plants_liveness.specs.declared.Choice.TheVariants.{Made, Refused}
+use Rattle.plants_liveness.specs.declared.Core.{Core}
 
 unfoldable pub member : ℕ → List ℕ → Bool
 member id [] = false
@@ -53,7 +52,7 @@ abbrev pub settled : Plants → List ℕ → Plants
 settled s core = settled_by s (up_after core)
 
 -- the tests before the core is chosen, 40, 42, 45, 48, 46 and 47, in this order
-unfoldable pub lent_tested : Plants → List ℕ → List ℕ → Bool → Test
+unfoldable pub lent_tested : Plants → List ℕ → List ℕ → Bool → Result Unit Refusal
 lent_tested s flags picks full =
     tested s
     then must (eqb (length flags) s.n && recovering_fit flags) BadFlags
@@ -62,7 +61,7 @@ lent_tested s flags picks full =
     then must (picks_in_range s.n picks full) PickOutOfRange
 
 -- and then 43, of the counts after all changes
-unfoldable pub choice_tested : Plants → List ℕ → List ℕ → Bool → Test
+unfoldable pub choice_tested : Plants → List ℕ → List ℕ → Bool → Result Unit Refusal
 choice_tested s flags picks full =
     lent_tested s flags picks full
     then must (counts_fit (settled s (core_of s.n flags picks full))) CountFull
@@ -71,15 +70,29 @@ choice_tested s flags picks full =
 abbrev pub padded : List ℕ → List ℕ
 padded core = core ++ replicate (most - length core) 0
 
+-- the ids of the core, and zeros where there is none
+abbrev pub ids_of : Result Core Refusal → List ℕ
+ids_of (Ok core) = core.ids
+ids_of (Err r) = replicate most 0
+
+-- what the choice hands back: the plants that follow it, and the core, or why there is none
+abbrev pub Chosen : Type 0
+Chosen = After Plants (Result Core Refusal)
+
 -- the plants that follow, the core, and the answer: a refusal hands the plants back as they came, with no core
-abbrev pub chosen_if : Test → Plants → List ℕ → List ℕ → Bool → Chosen
-chosen_if Passed s flags picks full =
+abbrev pub chosen_if : Result Unit Refusal → Plants → List ℕ → List ℕ → Bool → Chosen
+chosen_if (Ok x) s flags picks full =
     record {
-      plants = settled s (core_of s.n flags picks full);
-      core = padded (core_of s.n flags picks full);
-      choice = Made (core_size s.n picks full) (picks_used s.n full);
+      state = settled s (core_of s.n flags picks full);
+      answer =
+          Ok
+          (record {
+            size = core_size s.n picks full;
+            used = picks_used s.n full;
+            ids = padded (core_of s.n flags picks full);
+          });
     }
-chosen_if (Failed r) s flags picks full = record { plants = s; core = replicate most 0; choice = Refused r }
+chosen_if (Err r) s flags picks full = record { state = s; answer = Err r }
 
 unfoldable pub chosen : Plants → List ℕ → List ℕ → Bool → Chosen
 chosen s flags picks full = chosen_if (choice_tested s flags picks full) s flags picks full

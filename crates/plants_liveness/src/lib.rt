@@ -3,228 +3,215 @@
 // where the Rust has transition_to_liveness_mode.
 #![tactic(auto)]
 
-ghost use Rattle.std.specs.Prelude.{◌≡◌, true, not, ◌&&◌, ◌+◌, ◌-◌, ◌≤◌, ◌<◌, leb, length};
+ghost use Rattle.std.specs.Prelude.{◌≡◌, true, not, ◌&&◌, ◌≤◌, leb, length, Ok, Err, MatchResult};
 ghost use Rattle.plants.specs.State.{limit};
-ghost use Rattle.basis.specs.Basis.{bit, quorum};
+ghost use Rattle.basis.specs.Basis.{quorum};
 ghost use Rattle.plants_lineup.specs.Core.{size_picks, picks_used, core_size, picks_in_range, ids_from, those, tally, core_of, recovering_fit, healthy_count};
 ghost use Rattle.plants_liveness.specs.Choice.{lent_tested, in_core, up_after, is_set, newly_set, settled_by, padded, chosen};
 
 use basis::MOST;
+use calls::After;
 use plants::Plants;
-use plants::refusal::{Refusal, Test};
+use plants::refusal::Refusal;
 
-// A core of so many plants, chosen by so many picks, or why there is none.
+// A core that was chosen: its size, how many picks chose it, and its ids in rising order with zeros
+// past its size.
 #[derive(Clone, Copy)]
-pub enum Choice {
-    Made { size: usize, used: usize },
-    Refused(Refusal),
-}
-
-// The plants that follow a choice, the ids of the core in rising order with zeros past its size, and
-// the answer. After a refusal the plants are as they came, and the core is zeros.
-#[derive(Clone, Copy)]
-pub struct Chosen {
-    pub plants: Plants,
-    pub core: [u64; 15],
-    pub choice: Choice,
-}
-
-// How many picks the size takes.
-fn size_picks(full: bool) -> usize
-    ensures { result ≡ size_picks full }
-{
-    if full {
-        return 0;
-    }
-    1
-}
-
-// The size that is asked or picked.
-fn core_size(n: usize, picks: &[u64], full: bool) -> usize
-    requires { 1 ≤ length picks.now }
-    ensures { result ≡ core_size n picks.now full }
-{
-    if full {
-        return n;
-    }
-    picks[0] as usize
-}
-
-// Whether each pick is within its range.
-fn picks_in_range(n: usize, picks: &[u64], full: bool) -> bool
-    requires { (3 ≤ n) × (n ≤ 15) × (picks_used n full ≤ length picks.now) }
-    ensures { result ≡ picks_in_range n picks.now full }
-{
-    let size = core_size(n, picks, full);
-    if size < basis::quorum(n) {
-        return false;
-    }
-    if n < size {
-        return false;
-    }
-    let first = size_picks(full);
-    if !plants_lineup::picks_within(&picks[first..], n - 1) {
-        return false;
-    }
-    let second = first + (n - 1);
-    plants_lineup::picks_within(&picks[second..], n - basis::quorum(n) - 1)
-}
-
-// The tests before the core is chosen.
-fn test_lent(plants: Plants, recovering: &[u64], picks: &[u64], full: bool) -> Test
-    ensures { result ≡ lent_tested plants recovering.now picks.now full }
-{
-    let test = plants.test();
-    let Test::Passed = test else {
-        return test;
-    };
-    let n = plants.n;
-    if recovering.len() != n {
-        return Test::Failed(Refusal::BadFlags);
-    }
-    if !plants_lineup::flags_fit(recovering) {
-        return Test::Failed(Refusal::BadFlags);
-    }
-    if plants_lineup::healthy_count(recovering) < basis::quorum(n) {
-        return Test::Failed(Refusal::TooFewHealthy);
-    }
-    if picks.len() < picks_used(n, full) {
-        return Test::Failed(Refusal::TooFewPicks);
-    }
-    if !picks_in_range(n, picks, full) {
-        return Test::Failed(Refusal::PickOutOfRange);
-    }
-    Test::Passed
-}
-
-// How many picks are used.
-fn picks_used(n: usize, full: bool) -> usize
-    requires { (3 ≤ n) × (n ≤ 15) }
-    ensures { result ≡ picks_used n full }
-{
-    size_picks(full) + (n - 1) + (n - basis::quorum(n) - 1)
+pub struct Core {
+    pub size: usize,
+    pub used: usize,
+    pub ids: [u64; 15],
 }
 
 // Which plants are among some.
-fn members(ids: &[u64]) -> [bool; 15]
+fn members(ids: &[u64]) -> [bool; MOST]
     requires { tally (leb 15) ids.now ≡ 0 }
     ensures { result ≡ in_core ids.now 0 15 }
 {
-    let mut flags = [false; 15];
-    let mut i: usize = 0;
-    while i < ids.len() {
-        let id = ids[i] as usize;
-        flags[id] = true;
-        i += 1;
+    let mut flags = [false; MOST];
+    for id in ids {
+        flags[*id as usize] = true;
     }
     flags
 }
 
-// Which plants are in the core that the picks choose.
-fn in_core(n: usize, recovering: &[u64], picks: &[u64], full: bool) -> [bool; 15]
-    requires le_n { (3 ≤ n) × (n ≤ 15) × (length recovering.now ≡ n) × (recovering_fit recovering.now ≡ true)
-        × (quorum n ≤ healthy_count n recovering.now) }
-    requires full_in_bounds { (picks_used n full ≤ length picks.now) × (picks_in_range n picks.now full ≡ true) }
-    ensures { result ≡ up_after (core_of n recovering.now picks.now full) }
-{
-    let size = core_size(n, picks, full);
-    let first = size_picks(full);
-    let second = first + (n - 1);
-    let line = plants_lineup::line_up(n, recovering, &picks[first..], &picks[second..]);
-    members(&line[..size])
+// What decides a core of n plants: a recovering flag for each plant, the picks, and whether the full core is asked.
+#[derive(Clone, Copy)]
+struct Lent<'a> {
+    n: usize,
+    recovering: &'a [u64],
+    picks: &'a [u64],
+    full: bool,
+}
+
+impl<'a> Lent<'a> {
+    // How many picks the size takes.
+    fn size_picks(self) -> usize
+        ensures { result ≡ size_picks self.entry.full }
+    {
+        usize::from(!self.full)
+    }
+
+    // The size that is asked or picked.
+    fn size(self) -> usize
+        requires { 1 ≤ length self.picks.now }
+        ensures { result ≡ core_size self.entry.n self.entry.picks.now self.entry.full }
+    {
+        if self.full {
+            self.n
+        } else {
+            self.picks[0] as usize
+        }
+    }
+
+    // How many picks are used.
+    fn used(self) -> usize
+        requires { (3 ≤ self.n) × (self.n ≤ 15) }
+        ensures { result ≡ picks_used self.entry.n self.entry.full }
+    {
+        self.size_picks() + (self.n - 1) + (self.n - basis::quorum(self.n) - 1)
+    }
+
+    // Whether each pick is within its range.
+    #[tactic(auto, using(crate::proofs::Ranges::rest), unfolding(plants_lineup::specs::Core::picks_in_range))]
+    fn in_range(self) -> bool
+        requires { (3 ≤ self.n) × (self.n ≤ 15) × (picks_used self.n self.full ≤ length self.picks.now) }
+        ensures { result ≡ picks_in_range self.entry.n self.entry.picks.now self.entry.full }
+    {
+        let size = self.size();
+        let first = self.size_picks();
+        let second = first + (self.n - 1);
+        basis::quorum(self.n) <= size
+            && size <= self.n
+            && plants_lineup::picks_within(&self.picks[first..], self.n - 1)
+            && plants_lineup::picks_within(
+                &self.picks[second..],
+                self.n - basis::quorum(self.n) - 1,
+            )
+    }
+
+    // The tests before the core is chosen, of plants that are n.
+    #[tactic(auto, using(plants::proofs::Testing::bounds), unfolding(crate::specs::Choice::lent_tested))]
+    fn test(self, plants: Plants) -> Result<(), Refusal>
+        requires { self.n ≡ plants.n }
+        ensures { result ≡ lent_tested plants self.entry.recovering.now self.entry.picks.now self.entry.full }
+    {
+        plants.test()?;
+        if self.recovering.len() != self.n || !plants_lineup::flags_fit(self.recovering) {
+            return Err(Refusal::BadFlags);
+        }
+        if plants_lineup::healthy_count(self.recovering) < basis::quorum(self.n) {
+            return Err(Refusal::TooFewHealthy);
+        }
+        if self.picks.len() < self.used() {
+            return Err(Refusal::TooFewPicks);
+        }
+        if !self.in_range() {
+            return Err(Refusal::PickOutOfRange);
+        }
+        Ok(())
+    }
+
+    // Which plants are in the core that the picks choose.
+    fn in_core(self) -> [bool; MOST]
+        requires le_n { (3 ≤ self.n) × (self.n ≤ 15) × (length self.recovering.now ≡ self.n) × (recovering_fit self.recovering.now ≡ true)
+            × (quorum self.n ≤ healthy_count self.n self.recovering.now) }
+        requires full_in_bounds { (picks_used self.n self.full ≤ length self.picks.now) × (picks_in_range self.n self.picks.now self.full ≡ true) }
+        ensures { result ≡ up_after (core_of self.entry.n self.entry.recovering.now self.entry.picks.now self.entry.full) }
+    {
+        let size = self.size();
+        let first = self.size_picks();
+        let second = first + (self.n - 1);
+        let line = plants_lineup::line_up(
+            self.n,
+            self.recovering,
+            &self.picks[first..],
+            &self.picks[second..],
+        );
+        members(&line[..size])
+    }
 }
 
 // The plants whose flag is set, rising, and zeros.
-fn rising(flags: &[bool; 15]) -> [u64; 15]
-    requires { length flags.now ≡ 15 }
+fn rising(flags: &[bool; MOST]) -> [u64; MOST]
     ensures { result ≡ padded (those (is_set flags.now) (ids_from 0 15)) }
 {
-    let mut core = [0u64; 15];
+    let mut ids = [0u64; MOST];
     let mut count: usize = 0;
-    let mut i: usize = 0;
-    while i < MOST {
-        if flags[i] {
-            core[count] = i as u64;
+    for (id, flag) in flags.iter().enumerate() {
+        if *flag {
+            ids[count] = id as u64;
             count += 1;
         }
-        i += 1;
     }
-    core
-}
-
-// One if a flag is set that was not.
-fn rises(before: bool, after: bool) -> u64
-    ensures { result ≡ bit (not before && after) }
-{
-    if before {
-        return 0;
-    }
-    if after {
-        return 1;
-    }
-    0
+    ids
 }
 
 // How many flags are set that were not.
-fn risen(before: &[bool; 15], after: &[bool; 15]) -> u64
-    requires { (length before.now ≡ 15) × (length after.now ≡ 15) }
+#[tactic(auto, using(crate::proofs::RisenFlags::risen_next, crate::proofs::RisenFlags::risen_end, basis::proofs::Laws::bit_le))]
+fn risen(before: &[bool; MOST], after: &[bool; MOST]) -> u64
     ensures count { result ≡ newly_set before.now after.now }
     ensures few { result ≤ 15 }
 {
-    let mut count: u64 = 0;
-    let mut i: usize = 0;
-    while i < MOST {
-        let was = before[i];
-        let is = after[i];
-        count += rises(was, is);
-        i += 1;
+    let mut count = 0;
+    for i in 0..MOST {
+        count += u64::from(!before[i] & after[i]);
     }
     count
 }
 
 // The plants with these up from now on, and none partitioned.
-fn settled(plants: Plants, up: [bool; 15]) -> Plants
+fn settled(plants: Plants, up: [bool; MOST]) -> Plants
     requires { (plants.crashes ≤ limit) × (plants.restarts ≤ limit) }
     ensures { result ≡ settled_by plants up }
 {
-    let mut next = plants;
-    let before = plants.up;
-    let after = up;
-    next.crashes = next.crashes + risen(&after, &before);
-    next.restarts = next.restarts + risen(&before, &after);
-    next.up = after;
-    next.partitioned = [false; 15];
-    next
+    Plants {
+        up,
+        partitioned: [false; MOST],
+        crashes: plants.crashes + risen(&up, &plants.up),
+        restarts: plants.restarts + risen(&plants.up, &up),
+        ..plants
+    }
 }
 
 // Chooses the core. `recovering` has a flag for each plant, 1 if it is recovering; the picks used
-// stand at the front of `picks`.
-pub fn choose_core(plants: Plants, recovering: &[u64], picks: &[u64], full: bool) -> Chosen
+// stand at the front of `picks`. After a refusal the plants are as they came.
+#[tactic(auto, using(crate::proofs::Lending::lent_passed, crate::proofs::Choosing::gathered, plants::proofs::Testing::counts), unfolding(crate::specs::Choice::chosen, crate::specs::Choice::choice_tested))]
+pub fn choose_core(
+    plants: Plants,
+    recovering: &[u64],
+    picks: &[u64],
+    full: bool,
+) -> After<Plants, Result<Core, Refusal>>
     ensures { result ≡ chosen plants recovering.now picks.now full }
 {
-    if let Test::Failed(refusal) = test_lent(plants, recovering, picks, full) {
-        return Chosen {
-            plants,
-            core: [0; 15],
-            choice: Choice::Refused(refusal),
+    let lent = Lent {
+        n: plants.n,
+        recovering,
+        picks,
+        full,
+    };
+    if let Err(refusal) = lent.test(plants) {
+        return After {
+            state: plants,
+            answer: Err(refusal),
         };
     }
-    let n = plants.n;
-    let up = in_core(n, recovering, picks, full);
-    let next = settled(plants, up);
-    if !next.counts_fit() {
-        return Chosen {
-            plants,
-            core: [0; 15],
-            choice: Choice::Refused(Refusal::CountFull),
+    let up = lent.in_core();
+    let state = settled(plants, up);
+    if !state.counts_fit() {
+        return After {
+            state: plants,
+            answer: Err(Refusal::CountFull),
         };
     }
-    let core = rising(&up);
-    let size = core_size(n, picks, full);
-    let used = picks_used(n, full);
-    Chosen {
-        plants: next,
-        core,
-        choice: Choice::Made { size, used },
+    let core = Core {
+        size: lent.size(),
+        used: lent.used(),
+        ids: rising(&up),
+    };
+    After {
+        state,
+        answer: Ok(core),
     }
 }

@@ -15,8 +15,8 @@ use Rattle.plants.specs.Faults.{is_up}
 use Rattle.plants.specs.declared.Plants.{Plants}
 use Rattle.plants.specs.declared.Origin.{Origin}
 use Rattle.plants.specs.declared.refusal.Refusal.TheVariants.{UnknownPlant}
-use Rattle.plants.specs.declared.refusal.Test.{Test}
-use Rattle.plants.specs.declared.refusal.Test.TheVariants.{Passed, Failed}
+use Rattle.plants.specs.declared.refusal.Refusal.{Refusal}
+use Rattle.std.specs.Prelude.{Result, Ok, Err}
 use Rattle.plants.proofs.Testing.{both_pass, holds, bounds}
 use Rattle.plants_layout.specs.Layout.{plants_in, shaped, origin_in}
 use Rattle.plants_layout.proofs.Walking.{flag_at}
@@ -25,9 +25,9 @@ use Rattle.plants_words.proofs.Answering.{first, second}
 use Rattle.plants_verdicts.specs.Calls.{test_number, state_answer}
 use Rattle.plants_verdicts.proofs.States.{both_zero, regroup, in_order, passed}
 
-judged_number_lem : (t : Test) (s : Plants) (from : Origin) (to : ℕ) → judged_number (judged_if t s from to) ≡ test_number t
-judged_number_lem Passed s from to = refl
-judged_number_lem (Failed r) s from to = refl
+judged_number_lem : (t : Result Unit Refusal) (s : Plants) (from : Origin) (to : ℕ) → judged_number (judged_if t s from to) ≡ test_number t
+judged_number_lem (Ok x) s from to = refl
+judged_number_lem (Err r) s from to = refl
 
 module _ (w : List ℕ) (sort id to : ℕ) where
   abbrev state : Plants
@@ -37,7 +37,7 @@ module _ (w : List ℕ) (sort id to : ℕ) where
   from = origin_in sort id
 
   -- the tests of the two plants, the receiver's first
-  abbrev named : Test
+  abbrev named : Result Unit Refusal
   named = must (ltb to state.n) UnknownPlant then must (sender_known state from) UnknownPlant
 
   pub unsorted : 1 < sort → 24 ≡ verdict_answer w sort id to
@@ -74,7 +74,7 @@ module _ (w : List ℕ) (sort id to : ℕ) where
     from_client t z = sym (by_plants ∙ rw (lt-ltb to (get_or w 0 0) t, z))
 
 -- ---- where the single call is not refused
-by_test : (t : Test) (s : Plants) (from : Origin) (to k : ℕ) → t ≡ Passed → k ≡ 0
+by_test : (t : Result Unit Refusal) (s : Plants) (from : Origin) (to k : ℕ) → t ≡ Ok tt → k ≡ 0
     → get_or (on_zero k (judged_word (judged_if t s from to) (0 ∷ [])) (0 ∷ [])) 0 0 ≡ verdict_number (verdict_of s from to)
 unfolding on_zero
 by_test t s from to k e z = rw (e, z)
@@ -94,11 +94,11 @@ module _ (w : List ℕ) (sort id to : ℕ) (e : verdict_answer w sort id to ≡ 
   pub state_whole : state_answer w ≡ 0
   state_whole = zeros.0
 
-  state_passes : tested (plants_in w) ≡ Passed
+  state_passes : tested (plants_in w) ≡ Ok tt
   unfolding state_answer
   state_passes = passed _ (both_zero (shaped w) _ zeros.0).1
 
-  parts : (must (ltb to (get_or w 0 0)) UnknownPlant ≡ Passed) × (must (sender_known (plants_in w) (origin_in sort id)) UnknownPlant ≡ Passed)
+  parts : (must (ltb to (get_or w 0 0)) UnknownPlant ≡ Ok tt) × (must (sender_known (plants_in w) (origin_in sort id)) UnknownPlant ≡ Ok tt)
   parts = both_pass (must (ltb to (get_or w 0 0)) UnknownPlant) _ (passed (named w sort id to) zeros.1)
 
   few : get_or w 0 0 ≤ most
@@ -113,7 +113,7 @@ module _ (w : List ℕ) (sort id to : ℕ) (e : verdict_answer w sort id to ≡ 
       let k = rw z at (holds (sender_known (plants_in w) (origin_in sort id)) UnknownPlant parts.1) in
       omega (arith, ltb-true id (get_or w 0 0) k, few)
 
-  pub all_pass : verdict_tested (plants_in w) (origin_in sort id) to ≡ Passed
+  pub all_pass : verdict_tested (plants_in w) (origin_in sort id) to ≡ Ok tt
   unfolding verdict_tested
   all_pass = rw (state_passes, parts.0) parts.1
 

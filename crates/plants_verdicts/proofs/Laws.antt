@@ -12,8 +12,8 @@ use Rattle.nights.specs.Record.{Record, words, record_size, record_at, recs}
 use Rattle.plants.specs.Verdicts.{verdict_tested, verdict_given, judged_if}
 use Rattle.plants.specs.declared.Plants.{Plants}
 use Rattle.plants.specs.declared.Origin.{Origin}
-use Rattle.plants.specs.declared.refusal.Test.{Test}
-use Rattle.plants.specs.declared.refusal.Test.TheVariants.{Passed}
+use Rattle.plants.specs.declared.refusal.Refusal.{Refusal}
+use Rattle.std.specs.Prelude.{Result, Ok}
 use Rattle.plants_layout.specs.Layout.{plants_in, origin_in}
 use Rattle.plants_words.specs.Calls.{or_else, on_zero, judged_word, verdict_answer, verdict_words}
 use Rattle.plants_words.proofs.Answering.{kept, changed, first, second}
@@ -22,7 +22,7 @@ use Rattle.plants_verdicts.proofs.Judging.{state_whole, all_pass}
 use Rattle.plants_verdicts.proofs.Each.{each_zero, at_place, answered_zero}
 
 -- ---- the single call, where it is not refused
-same_word : (t : Test) (s : Plants) (from : Origin) (to k a : ℕ) → t ≡ Passed → k ≡ 0
+same_word : (t : Result Unit Refusal) (s : Plants) (from : Origin) (to k a : ℕ) → t ≡ Ok tt → k ≡ 0
     → on_zero k (judged_word (judged_if t s from to) (a ∷ [])) (a ∷ [])
     ≡ get_or (on_zero k (judged_word (judged_if t s from to) (0 ∷ [])) (0 ∷ [])) 0 0 ∷ []
 unfolding on_zero

@@ -1,13 +1,21 @@
 -- The verdicts on all records of a take in one call (RULES, "The host's boundary"): record by record what the single call answers and
 -- tells, and the first refusal is the answer. A refusal leaves the words as they came. Assumes nothing.
-use Rattle.std.specs.Prelude.{ℕ, ◌*◌, cond, List, [], ◌∷◌, map, eqb, length, get_or}
+use Rattle.std.specs.Prelude.{ℕ, ◌*◌, cond, List, [], ◌∷◌, map, eqb, length, get_or, Result, Ok, Err}
 use Rattle.nights.specs.Record.{Record, record_size, recs}
 use Rattle.plants.specs.Refusals.{plants_refusal}
 use Rattle.plants.specs.State.{tested}
-use Rattle.plants.specs.declared.refusal.Test.{Test}
-use Rattle.plants.specs.declared.refusal.Test.TheVariants.{Passed, Failed}
+use Rattle.plants.specs.declared.refusal.Refusal.{Refusal}
+use Rattle.plants_verdicts.specs.declared.Refused.{Refused}
+use Rattle.plants_verdicts.specs.declared.Refused.TheVariants.{UnknownSort, BadRoom, ByPlants}
 use Rattle.plants_layout.specs.Layout.{plants_in, shaped}
 use Rattle.plants_words.specs.Calls.{or_else, on_zero, verdict_answer, verdict_words}
+
+-- an answer as a number: 0, or the number of its refusal
+abbrev pub refused_number : Result Unit Refused → ℕ
+refused_number (Ok x) = 0
+refused_number (Err UnknownSort) = 24
+refused_number (Err BadRoom) = 30
+refused_number (Err (ByPlants r)) = plants_refusal r
 
 -- the single call on a record: what it answers, and the word that it tells where it is lent a 0
 abbrev pub answer_on : List ℕ → Record → ℕ
@@ -17,9 +25,9 @@ abbrev pub told_on : List ℕ → Record → ℕ
 told_on w r = get_or (verdict_words w r.sort r.origin r.to (0 ∷ [])) 0 0
 
 -- what a state answers by itself: 40 and 42
-abbrev pub test_number : Test → ℕ
-test_number Passed = 0
-test_number (Failed r) = plants_refusal r
+abbrev pub test_number : Result Unit Refusal → ℕ
+test_number (Ok x) = 0
+test_number (Err r) = plants_refusal r
 
 unfoldable pub state_answer : List ℕ → ℕ
 state_answer w = or_else (shaped w) (test_number (tested (plants_in w)))

@@ -5,15 +5,20 @@
 // which it is stable; crashes, restarts, reboots.
 #![tactic(auto)]
 
-ghost use Rattle.std.specs.Prelude.{◌≡◌, [], ◌∷◌, ◌+◌, length};
-ghost use Rattle.basis.specs.Basis.{most};
-ghost use Rattle.plants_layout.specs.Layout.{core_row};
-ghost use Rattle.plants_words.specs.Calls.{new_answer, new_words, apply_answer, apply_words, nonce_words, verdict_answer, verdict_words, core_answer, core_words, core_answered, core_told};
+ghost use Rattle.std.specs.Prelude.{◌≡◌, [], ◌∷◌, not, eqb};
+ghost use Rattle.plants.specs.Refusals.{answer_number};
+ghost use Rattle.plants.specs.Faults.{applied};
+ghost use Rattle.plants.specs.Verdicts.{verdict_given};
+ghost use Rattle.plants_layout.specs.Layout.{plants_in, state_words, shaped};
+ghost use Rattle.plants_liveness.specs.declared.Core.{Core};
+ghost use Rattle.plants_words.specs.Calls.{or_else, on_zero, outcome_number, drawn, judged_number, judged_word, new_answer, new_words, apply_answer, apply_words, nonce_words, verdict_answer, verdict_words, core_answer, core_words, core_answered, core_told};
 
 use basis::MOST;
-use plants::{Judged, Outcome, Plants};
+use plants::refusal::Refusal;
+use plants::{Origin, Plants};
 use plants_layout::WORDS;
-use plants_liveness::Choice;
+use plants_liveness::Core;
+use script::fault::Fault;
 
 // A core's answer: its size, the picks used, and its ids with zeros behind them.
 const IDS: usize = 2;
@@ -21,23 +26,19 @@ const IDS: usize = 2;
 pub const CORE_WORDS: usize = IDS + MOST;
 
 // The number of an unknown fault, and that of an unknown sort of sender.
+// Kept: numbers, which the C interface answers (bellmantle_plants_apply, bellmantle_plants_verdict), as the calls here do.
 const UNKNOWN_FAULT: u64 = 5;
 
 const UNKNOWN_SORT: u64 = 24;
 
-// The one word of an answer.
-fn put_word(told: &mut [u64; 1], word: u64)
-    ensures { told.new ≡ word ∷ [] }
+// The number of an answer: 0 for what was done, or that of its refusal.
+fn number_of<T: Copy>(answer: Result<T, Refusal>) -> u64
+    ensures { result ≡ answer_number answer }
 {
-    basis::seen(told);
-    told[0] = word;
-}
-
-// The words lent for a core are 17.
-fn sized_core(told: &[u64; CORE_WORDS])
-    ensures { length told.now ≡ core_row }
-{
-    basis::seen(told);
+    match answer {
+        Ok(_) => 0,
+        Err(refusal) => refusal.number(),
+    }
 }
 
 // Fresh plants.
@@ -45,14 +46,36 @@ pub fn new(n: u64, words: &mut [u64; WORDS]) -> u64
     ensures answer { result ≡ new_answer n }
     ensures words { words.new ≡ new_words n words.old }
 {
-    plants_layout::sized(words);
     let next = Plants::new(n as usize);
-    let outcome = next.outcome;
-    if let Outcome::Refused(refusal) = outcome {
-        return refusal.number();
+    if next.answer.is_ok() {
+        plants_layout::store(next.state, words);
     }
-    plants_layout::store(next.plants, words);
-    0
+    number_of(next.answer)
+}
+
+// Injects a fault, once its number is known.
+fn apply_known(
+    words: &mut [u64; WORDS],
+    tick: u64,
+    fault: Fault,
+    draws: &[u64],
+    nonce: &mut [u64; 1],
+) -> Result<(), Refusal>
+    ensures answer { let next = applied (plants_in words.old) tick fault draws.now in
+        answer_number result ≡ or_else (shaped words.old) (outcome_number next.answer) }
+    ensures words { let next = applied (plants_in words.old) tick fault draws.now in
+        words.new ≡ on_zero (answer_number result) (state_words next.state) words.old }
+    ensures nonce { let next = applied (plants_in words.old) tick fault draws.now in
+        nonce.new ≡ on_zero (answer_number result) (drawn next.answer nonce.old) nonce.old }
+{
+    plants_layout::shape(words)?;
+    let next = plants_layout::load(words).apply(tick, fault, draws);
+    let drawn = next.answer?;
+    plants_layout::store(next.state, words);
+    if let Some(word) = drawn {
+        *nonce = [word];
+    }
+    Ok(())
 }
 
 // Injects a fault at a tick; a reboot's nonce is told.
@@ -68,29 +91,27 @@ pub fn apply(
     ensures words { words.new ≡ apply_words words.old tick fault id draws.now }
     ensures nonce { nonce.new ≡ nonce_words words.old tick fault id draws.now nonce.old }
 {
-    plants_layout::sized(words);
     if 5 < fault {
         return UNKNOWN_FAULT;
     }
-    let shape = plants_layout::shape(words);
-    if shape != 0 {
-        return shape;
-    }
-    let state = plants_layout::load(words);
-    let next = state.apply(tick, plants_layout::fault_of(fault, id), draws);
-    let outcome = next.outcome;
-    match outcome {
-        Outcome::Refused(refusal) => refusal.number(),
-        Outcome::Nonce(drawn) => {
-            plants_layout::store(next.plants, words);
-            put_word(nonce, drawn);
-            0
-        }
-        Outcome::Done => {
-            plants_layout::store(next.plants, words);
-            0
-        }
-    }
+    let known = plants_layout::fault_of(fault, id);
+    number_of(apply_known(words, tick, known, draws, nonce))
+}
+
+// What becomes of a message from a sender that is known.
+fn verdict_known(
+    words: &[u64; WORDS],
+    from: Origin,
+    to: u64,
+    told: &mut [u64; 1],
+) -> Result<(), Refusal>
+    ensures answer { answer_number result ≡ or_else (shaped words.now) (judged_number (verdict_given (plants_in words.now) from to)) }
+    ensures told { told.new ≡ on_zero (answer_number result) (judged_word (verdict_given (plants_in words.now) from to) told.old) told.old }
+{
+    plants_layout::shape(words)?;
+    let verdict = plants_layout::load(words).verdict(from, to)?;
+    *told = [verdict.number()];
+    Ok(())
 }
 
 // What becomes of a message that is due at plant `to`: its verdict is told.
@@ -98,37 +119,41 @@ pub fn verdict(words: &[u64; WORDS], sort: u64, id: u64, to: u64, told: &mut [u6
     ensures answer { result ≡ verdict_answer words.now sort id to }
     ensures told { told.new ≡ verdict_words words.now sort id to told.old }
 {
-    plants_layout::sized(words);
     if 1 < sort {
         return UNKNOWN_SORT;
     }
-    let shape = plants_layout::shape(words);
-    if shape != 0 {
-        return shape;
-    }
-    let state = plants_layout::load(words);
-    match state.verdict(plants_layout::origin_of(sort, id), to) {
-        Judged::Refused(refusal) => refusal.number(),
-        Judged::Is(verdict) => {
-            put_word(told, verdict.number());
-            0
-        }
-    }
+    let from = plants_layout::origin_of(sort, id);
+    number_of(verdict_known(words, from, to, told))
 }
 
 // The answer of a core: its size, the picks used, and its 15 words.
-fn put_core(told: &mut [u64; CORE_WORDS], size: usize, used: usize, core: &[u64; MOST])
-    requires { (length told.old ≡ core_row) × (length core.now ≡ most) }
-    ensures { told.new ≡ core_told size used core.now }
+fn put_core(told: &mut [u64; CORE_WORDS], core: &Core)
+    ensures { told.new ≡ core_told core.now.size core.now.used core.now.ids }
 {
-    told[0] = size as u64;
-    told[1] = used as u64;
-    let mut i: usize = 0;
-    while i < MOST {
-        let id = core[i];
-        told[IDS + i] = id;
-        i += 1;
-    }
+    told[0] = core.size as u64;
+    told[1] = core.used as u64;
+    told[IDS..].copy_from_slice(&core.ids);
+}
+
+// Chooses the core, or says why there is none.
+fn choose(
+    words: &mut [u64; WORDS],
+    recovering: &[u64],
+    picks: &[u64],
+    full: u64,
+    told: &mut [u64; CORE_WORDS],
+) -> Result<(), Refusal>
+    ensures answer { answer_number result ≡ core_answer words.old recovering.now picks.now full }
+    ensures words { words.new ≡ core_words words.old recovering.now picks.now full }
+    ensures told { told.new ≡ core_answered words.old recovering.now picks.now full told.old }
+{
+    plants_layout::shape(words)?;
+    let state = plants_layout::load(words);
+    let chosen = plants_liveness::choose_core(state, recovering, picks, full != 0);
+    let core = chosen.answer?;
+    plants_layout::store(chosen.state, words);
+    put_core(told, &core);
+    Ok(())
 }
 
 // Chooses the core of plants that stays up; `full` is no for 0 and yes otherwise.
@@ -143,22 +168,5 @@ pub fn choose_core(
     ensures words { words.new ≡ core_words words.old recovering.now picks.now full }
     ensures told { told.new ≡ core_answered words.old recovering.now picks.now full told.old }
 {
-    plants_layout::sized(words);
-    sized_core(told);
-    let shape = plants_layout::shape(words);
-    if shape != 0 {
-        return shape;
-    }
-    let state = plants_layout::load(words);
-    let chosen = plants_liveness::choose_core(state, recovering, picks, full != 0);
-    let choice = chosen.choice;
-    match choice {
-        Choice::Refused(refusal) => refusal.number(),
-        Choice::Made { size, used } => {
-            plants_layout::store(chosen.plants, words);
-            let core = chosen.core;
-            put_core(told, size, used, &core);
-            0
-        }
-    }
+    number_of(choose(words, recovering, picks, full, told))
 }

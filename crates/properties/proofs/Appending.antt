@@ -18,16 +18,15 @@ use Rattle.properties_snapshots.proofs.Held.{canonical_long, last_held}
 use Rattle.properties_snapshots.proofs.Known.{tracker_known}
 use Rattle.properties_snapshots.proofs.Same.{entries_same}
 use Rattle.properties_verdicts.specs.Verdicts.{and_then, first_answer, at_entry, over_committed}
-use Rattle.properties_verdicts.proofs.First.{broken_no_pass, refused_no_pass}
+use Rattle.std.specs.Prelude.{⊤, Result, Ok, Err}
+use Rattle.properties_verdicts.proofs.First.{no_pass}
 use Rattle.properties_agreement.specs.Agreement.{committer_from, committer, canonical_entry, agrees}
 use Rattle.properties_agreement.proofs.Reached.{committer_below, committer_committed}
 use Rattle.properties_remembering.specs.Remembering.{length_after, appended}
-use Rattle.properties_judge.specs.Ticks.{over_entries}
+use Rattle.properties_judge.specs.Ticks.{PrefixAgreement, over_entries}
 use Rattle.properties.specs.Appending.{Walk, on_answer, walk_then, compared_or_appended, over_indexes, over_all, appending}
-use Rattle.properties_verdicts.specs.declared.Answer.{Answer}
-use Rattle.properties_verdicts.specs.declared.Answer.TheVariants.{Pass, Broken, Refused}
+use Rattle.properties_verdicts.specs.declared.Break.{Break}
 use Rattle.properties_verdicts.specs.declared.Property as all
-use Rattle.properties_judge.specs.declared.EntryProperty.TheVariants.{PrefixAgreement}
 
 -- ---- the first plant that has committed an index
 none_before : (c : Cluster) (i from count q : ℕ) → from ≤ q → q < committer_from c i from count → (plant c q).commit ≤ i
@@ -103,22 +102,21 @@ module _ (c : Cluster) where
       ]
 
   -- a walk that answers so and, if it passes, has gathered the entries up to m
-  pub record Walked (w : Walk) (x : Answer) (m : ℕ) : Type 0 where
+  pub record Walked (w : Walk) (x : Result ⊤ Break) (m : ℕ) : Type 0 where
     pub answer : w.answer ≡ x
-    pub canonical : w.answer ≡ Pass → w.canonical ≡ up_to m
+    pub canonical : w.answer ≡ Ok tt → w.canonical ≡ up_to m
 
-  going_on : (w : Walk) (x y : Answer) (m e : ℕ) (more : List LogEntry → Walk) → Walked w x m → Walked (more (up_to m)) y e
+  going_on : (w : Walk) (x y : Result ⊤ Break) (m e : ℕ) (more : List LogEntry → Walk) → Walked w x m → Walked (more (up_to m)) y e
       → Walked (walk_then w more) (and_then x y) e
-  going_on w x y m e more h k = subst (λ (z : Answer). Walked (walk_then w more) (and_then z y) e) h.answer (go w.answer refl)
+  going_on w x y m e more h k = subst (λ (z : Result ⊤ Break). Walked (walk_then w more) (and_then z y) e) h.answer (go w.answer refl)
     where
-      go : (a : Answer) → w.answer ≡ a → Walked (on_answer a w more) (and_then a y) e
-      go Pass q = rw (h.canonical q) k
-      go (Broken p r i t) q = record { answer = q; canonical = λ z. absurd (broken_no_pass p r i t (sym q ∙ z)) }
-      go (Refused f) q = record { answer = q; canonical = λ z. absurd (refused_no_pass f (sym q ∙ z)) }
+      go : (a : Result ⊤ Break) → w.answer ≡ a → Walked (on_answer a w more) (and_then a y) e
+      go (Ok u) q = rw (h.canonical q) k
+      go (Err b) q = record { answer = q; canonical = λ z. absurd (no_pass b (sym q ∙ z)) }
 
   -- ---- a plant's entries
   module _ (r : ℕ) (h : r < c.size) where
-    abbrev compared : ℕ → Answer
+    abbrev compared : ℕ → Result ⊤ Break
     compared i = at_entry all.TheVariants.PrefixAgreement r i 1 (agrees c r i)
 
     -- the first plant to commit an index that is not remembered appends its entry
@@ -187,7 +185,7 @@ module _ (c : Cluster) where
     pub agreement_is_appending : (appending c).answer ≡ over_entries PrefixAgreement c
     agreement_is_appending = walked.answer
 
-    pub appended_are : (appending c).answer ≡ Pass → (appending c).canonical ≡ c.tracker.canonical ++ appended c
+    pub appended_are : (appending c).answer ≡ Ok tt → (appending c).canonical ≡ c.tracker.canonical ++ appended c
     unfolding appended length_after
     appended_are e = walked.canonical e
 

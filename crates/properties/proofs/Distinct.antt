@@ -16,7 +16,7 @@ use Rattle.properties_snapshots.specs.Layout.{length_at, last_at, seen_at, track
 use Rattle.properties_snapshots.proofs.Held.{last_held, seen_held}
 use Rattle.properties_snapshots.proofs.Known.{tracker_known}
 use Rattle.properties_verdicts.specs.Verdicts.{and_then, unless}
-use Rattle.properties_verdicts.proofs.First.{then_pass, unless_known}
+use Rattle.properties_verdicts.proofs.First.{then_pass, unless_known, refused_pass}
 use Rattle.properties_duplicates.specs.Duplicates.{id_of}
 use Rattle.properties_remembering.specs.Remembering.{remembered}
 use Rattle.properties_tracker.specs.Calls.{fresh_answer, fresh_words, reboot_answer, reboot_words}
@@ -27,12 +27,12 @@ use Rattle.properties.specs.Nights.{TrackerCall, tick, reboot, tracker_after, No
 use Rattle.properties.proofs.Exactly.{tick_pass_exactly}
 use Rattle.properties.proofs.Fitting.{either, fresh_fits}
 use Rattle.properties.proofs.Words.{pass_writes}
-use Rattle.properties_verdicts.specs.declared.Answer.TheVariants.{Pass}
+use Rattle.std.specs.Prelude.{Ok}
 use Rattle.properties_verdicts.specs.declared.Property.TheVariants.{NoDuplicates}
 use Rattle.properties_verdicts.specs.declared.Refusal.TheVariants.{PlantCount, NoSuchPlant, BadTracker}
 
 -- a fresh tracker has no last commit over 0
-fresh_distinct : (n : ℕ) (t : List ℕ) → fresh_answer n (length t) ≡ Pass → NoTwoEqual n (fresh_words n t)
+fresh_distinct : (n : ℕ) (t : List ℕ) → fresh_answer n (length t) ≡ Ok tt → NoTwoEqual n (fresh_words n t)
 unfolding fresh_words
 fresh_distinct n t e r i j h l m q =
     let k = tracker_known n (fresh_words n t) (fresh_fits n t e) in
@@ -44,9 +44,10 @@ reboot_distinct : (n id : ℕ) (t : List ℕ) → NoTwoEqual n t → NoTwoEqual 
 unfolding reboot_words reboot_answer
 reboot_distinct n id t d = either (reboot_answer n id t) (set t (last_at id) 0) t (NoTwoEqual n) rebooted d
   where
-    rebooted : reboot_answer n id t ≡ Pass → NoTwoEqual n (set t (last_at id) 0)
+    rebooted : reboot_answer n id t ≡ Ok tt → NoTwoEqual n (set t (last_at id) 0)
     rebooted e r i j h l m q =
-        let a = then_pass (unless PlantCount (plant_count n)) (and_then (unless NoSuchPlant (ltb id n)) (unless BadTracker (tracker_fits n t))) e in
+        let a = then_pass (unless PlantCount (plant_count n)) (and_then (unless NoSuchPlant (ltb id n)) (unless BadTracker (tracker_fits n t)))
+        (refused_pass (and_then (unless PlantCount (plant_count n)) (and_then (unless NoSuchPlant (ltb id n)) (unless BadTracker (tracker_fits n t)))) e) in
         let b = then_pass (unless NoSuchPlant (ltb id n)) (unless BadTracker (tracker_fits n t)) a.1 in
         let below = ltb-true id n (unless_known NoSuchPlant (ltb id n) b.0) in
         let k = tracker_known n t (unless_known BadTracker (tracker_fits n t) b.1) in
@@ -61,7 +62,7 @@ reboot_distinct n id t d = either (reboot_answer n id t) (set t (last_at id) 0) 
         ]
 
 -- a tick call that passes: an id newly committed differs from all before it by property 4, and those remembered differ already
-module _ (n : ℕ) (p l t : List ℕ) (pass : tick_answer n p l t ≡ Pass) (d : NoTwoEqual n t) where
+module _ (n : ℕ) (p l t : List ℕ) (pass : tick_answer n p l t ≡ Ok tt) (d : NoTwoEqual n t) where
   abbrev c : Cluster
   c = cluster_in n p l t
 
@@ -104,6 +105,6 @@ keeps_distinct n [] t d = d
 keeps_distinct n (tick p l ∷ more) t d = keeps_distinct n more (tick_words n p l t) (tick_distinct n p l t d)
 keeps_distinct n (reboot id ∷ more) t d = keeps_distinct n more (reboot_words n id t) (reboot_distinct n id t d)
 
-pub no_two_equal : (n : ℕ) (t : List ℕ) → fresh_answer n (length t) ≡ Pass → (calls : List TrackerCall)
+pub no_two_equal : (n : ℕ) (t : List ℕ) → fresh_answer n (length t) ≡ Ok tt → (calls : List TrackerCall)
     → NoTwoEqual n (tracker_after n (fresh_words n t) calls)
 no_two_equal n t e calls = keeps_distinct n calls (fresh_words n t) (fresh_distinct n t e)

@@ -12,23 +12,22 @@ use lib.ListN.{length}
 use Rattle.basis.specs.Basis.{plant_count}
 use Rattle.properties_snapshots.specs.Cluster.{Cluster, plant, last, cluster_in}
 use Rattle.properties_snapshots.specs.Fits.{snapshot_fits, tracker_fits}
-use Rattle.properties_verdicts.specs.Verdicts.{property_number, and_then}
-use Rattle.properties_verdicts.proofs.First.{then_pass}
+use Rattle.std.specs.Prelude.{⊤, Result, Ok, Err}
+use Rattle.properties_verdicts.specs.Verdicts.{property_number, and_then, broken}
+use Rattle.properties_tick.proofs.Passed.{passed_both}
 use Rattle.properties_commits.specs.Commits.{commit_tests, commit_numbers}
-use Rattle.properties_judge.specs.Ticks.{named, asked, over_entries, judged_entries, tick_judged}
+use Rattle.properties_judge.specs.Ticks.{EntryProperty, named, asked, over_entries, judged_entries, tick_judged}
+use Rattle.properties_judge.specs.Ticks as of-entries
 use Rattle.properties_tick.specs.Calls.{tick_refusal, tick_answer}
 use Rattle.properties.specs.Places.{Newly, Asked, Place, Before, AskedAt, HoldsAt, First, FirstOf}
-use Rattle.properties.proofs.Judged.{number, same_number, same_place, before_number, before_plant, before_index, before_test, broken_at, Judged, broken_is, pass_is, not_refused, one_judged, same_judged, then_judged, first_judged}
+use Rattle.properties.proofs.Judged.{number, same_number, same_place, before_number, before_plant, before_index, before_test, broken_at, Judged, broken_is, pass_is, one_judged, same_judged, then_judged, first_judged}
 use Rattle.properties.proofs.Refusals.{count_refused, snapshot_refused, tracker_refused, then_broken}
 use Rattle.properties.proofs.Tests.{op_exactly, commit_exactly, last_exactly, asked_exactly}
-use Rattle.properties_verdicts.specs.declared.Answer.{Answer}
-use Rattle.properties_verdicts.specs.declared.Answer.TheVariants.{Pass, Broken, Refused}
+use Rattle.properties_verdicts.specs.declared.Break.{Break}
+use Rattle.properties_verdicts.specs.declared.Failure.TheVariants.{Broken, Refused}
 use Rattle.properties_verdicts.specs.declared.Property.{Property}
 use Rattle.properties_verdicts.specs.declared.Property.TheVariants.{CommitNumber, PrefixAgreement, NoDuplicates, Durability, Convergence}
-use Rattle.properties_verdicts.specs.declared.Refusal.{Refusal}
 use Rattle.properties_verdicts.specs.declared.Refusal.TheVariants.{PlantCount, BadSnapshot, BadTracker}
-use Rattle.properties_judge.specs.declared.EntryProperty.{EntryProperty}
-use Rattle.properties_judge.specs.declared.EntryProperty as of-entries
 
 module _ (c : Cluster) where
   -- the places of one property
@@ -61,8 +60,8 @@ module _ (c : Cluster) where
     only_test : (t : ℕ) (d : Place) → Tested d → d.test ≡ t → d ≡ test t
     only_test t d m e = same_place d (test t) m.0.0 m.1 (of_asked CommitNumber d m.0).1 e
 
-    in_order : (a b d : Bool) → cond a (cond b (cond d Pass (broken_at (test 3))) (broken_at (test 2))) (broken_at (test 1))
-        ≡ and_then (cond a Pass (broken_at (test 1))) (and_then (cond b Pass (broken_at (test 2))) (cond d Pass (broken_at (test 3))))
+    in_order : (a b d : Bool) → cond a (cond b (cond d (Ok tt) (broken_at (test 3))) (broken_at (test 2))) (broken_at (test 1))
+        ≡ and_then (cond a (Ok tt) (broken_at (test 1))) (and_then (cond b (Ok tt) (broken_at (test 2))) (cond d (Ok tt) (broken_at (test 3))))
     in_order true true d = refl
     in_order true false d = refl
     in_order false b d = refl
@@ -98,9 +97,9 @@ module _ (c : Cluster) where
 
   -- ---- a property of entries: the entries of a plant, and all plants
   entry_asked : (p : EntryProperty) (r i t : ℕ) → Asked c (named p) r i t ↔ (Newly c r i × (t ≡ 1))
-  entry_asked of-entries.TheVariants.PrefixAgreement r i t = Iff.rfl
-  entry_asked of-entries.TheVariants.NoDuplicates r i t = Iff.rfl
-  entry_asked of-entries.TheVariants.Durability r i t = Iff.rfl
+  entry_asked of-entries.PrefixAgreement r i t = Iff.rfl
+  entry_asked of-entries.NoDuplicates r i t = Iff.rfl
+  entry_asked of-entries.Durability r i t = Iff.rfl
 
   module _ (p : EntryProperty) where
     newly : (d : Place) → Of (named p) d → Newly c d.plant d.index × (d.test ≡ 1)
@@ -141,7 +140,7 @@ module _ (c : Cluster) where
   abbrev Over : ℕ → Place → Type 0
   Over k d = AskedAt c d × (k < number d)
 
-  next_judged : (p : Property) (k : ℕ) (x y : Answer) → k < property_number p → ((d : Place) → Over k d → property_number p ≤ number d)
+  next_judged : (p : Property) (k : ℕ) (x y : Result ⊤ Break) → k < property_number p → ((d : Place) → Over k d → property_number p ≤ number d)
       → Judged c (Of p) x → Judged c (Over (property_number p)) y → Judged c (Over k) (and_then x y)
   next_judged p k x y h least first more =
       let bound = property_number p in
@@ -161,17 +160,17 @@ module _ (c : Cluster) where
       same_judged c (Over 0) (AskedAt c) (tick_judged c) (λ d. (λ m. m.0, λ m. (m, (known d m).0)))
       (next_judged CommitNumber 0 _ _ (omega arith) (λ d m. m.1) commits_judged
       (next_judged PrefixAgreement 1 _ _ (omega arith) (λ d m. omega (arith, known d m.0, m.1))
-      (entries_judged of-entries.TheVariants.PrefixAgreement)
-      (next_judged NoDuplicates 3 _ _ (omega arith) (λ d m. m.1) (entries_judged of-entries.TheVariants.NoDuplicates)
+      (entries_judged of-entries.PrefixAgreement)
+      (next_judged NoDuplicates 3 _ _ (omega arith) (λ d m. m.1) (entries_judged of-entries.NoDuplicates)
       (same_judged c (Of Durability) (Over 4) _
       (λ d. (
         λ m. let e = ap property_number m.0 in (m.1, omega arith),
         λ m. (same_number d.property Durability (omega (arith, known d m.0, m.1)), m.0),
       ))
-      (entries_judged of-entries.TheVariants.Durability)))))
+      (entries_judged of-entries.Durability)))))
 
   -- ---- what each answers, exactly
-  module _ (p : Property) (x : Answer) (judged : Judged c (Of p) x) where
+  module _ (p : Property) (x : Result ⊤ Break) (judged : Judged c (Of p) x) where
     of_broken : (a : Place) → (x ≡ broken_at a) ↔ FirstOf p c a
     of_broken a =
         Iff.trans (broken_is c (Of p) x judged a) (
@@ -179,32 +178,32 @@ module _ (c : Cluster) where
           λ f. record { asked = (f.of, f.asked); fails = f.fails; before = λ b m. f.before b m.0 m.1 },
         )
 
-    of_pass : (x ≡ Pass) ↔ ((a : Place) → a.property ≡ p → AskedAt c a → HoldsAt c a)
+    of_pass : (x ≡ Ok tt) ↔ ((a : Place) → a.property ≡ p → AskedAt c a → HoldsAt c a)
     of_pass = Iff.trans (pass_is c (Of p) x judged) (λ h a e m. h a (e, m), λ h a m. h a m.0 m.1)
 
   pub commit_broken_exactly : (a : Place)
-      → (commit_numbers c ≡ Broken a.property a.plant a.index a.test) ↔ FirstOf CommitNumber c a
+      → (commit_numbers c ≡ Err (broken a.property a.plant a.index a.test)) ↔ FirstOf CommitNumber c a
   commit_broken_exactly = of_broken CommitNumber (commit_numbers c) commits_judged
 
-  pub commit_pass_exactly : (commit_numbers c ≡ Pass) ↔ ((a : Place) → a.property ≡ CommitNumber → AskedAt c a → HoldsAt c a)
+  pub commit_pass_exactly : (commit_numbers c ≡ Ok tt) ↔ ((a : Place) → a.property ≡ CommitNumber → AskedAt c a → HoldsAt c a)
   commit_pass_exactly = of_pass CommitNumber (commit_numbers c) commits_judged
 
   pub entries_broken_exactly : (p : EntryProperty) (a : Place)
-      → (over_entries p c ≡ Broken a.property a.plant a.index a.test) ↔ FirstOf (named p) c a
+      → (over_entries p c ≡ Err (broken a.property a.plant a.index a.test)) ↔ FirstOf (named p) c a
   entries_broken_exactly p = of_broken (named p) (over_entries p c) (entries_judged p)
 
   pub entries_pass_exactly : (p : EntryProperty)
-      → (over_entries p c ≡ Pass) ↔ ((a : Place) → a.property ≡ named p → AskedAt c a → HoldsAt c a)
+      → (over_entries p c ≡ Ok tt) ↔ ((a : Place) → a.property ≡ named p → AskedAt c a → HoldsAt c a)
   entries_pass_exactly p = of_pass (named p) (over_entries p c) (entries_judged p)
 
-  pub broken_exactly : (a : Place) → (tick_judged c ≡ Broken a.property a.plant a.index a.test) ↔ First c a
+  pub broken_exactly : (a : Place) → (tick_judged c ≡ Err (broken a.property a.plant a.index a.test)) ↔ First c a
   broken_exactly a =
       Iff.trans (broken_is c (AskedAt c) (tick_judged c) tick_judged_lem a) (
         λ f. record { asked = f.asked; fails = f.fails; before = f.before },
         λ f. record { asked = f.asked; fails = f.fails; before = f.before },
       )
 
-  pub pass_exactly : (tick_judged c ≡ Pass) ↔ ((a : Place) → AskedAt c a → HoldsAt c a)
+  pub pass_exactly : (tick_judged c ≡ Ok tt) ↔ ((a : Place) → AskedAt c a → HoldsAt c a)
   pass_exactly = pass_is c (AskedAt c) (tick_judged c) tick_judged_lem
 
 -- ---- the call: its refusals come first
@@ -212,30 +211,27 @@ module _ (n : ℕ) (p l t : List ℕ) where
   abbrev c : Cluster
   c = cluster_in n p l t
 
-  never : (e : Refusal) → tick_judged c ≡ Refused e → ⊥
-  never e = not_refused c (AskedAt c) (tick_judged c) e (tick_judged_lem c)
-
   pub tick_broken_exactly : (a : Place)
-      → (tick_answer n p l t ≡ Broken a.property a.plant a.index a.test) ↔ ((tick_refusal n p l t ≡ Pass) × First c a)
+      → (tick_answer n p l t ≡ Err (Broken (broken a.property a.plant a.index a.test))) ↔ ((tick_refusal n p l t ≡ Ok tt) × First c a)
   unfolding tick_answer tick_refusal
   tick_broken_exactly a =
-      Iff.trans (then_broken (tick_judged c) never (plant_count n) (snapshot_fits n p l) (tracker_fits n t) a)
+      Iff.trans (then_broken (tick_judged c) (plant_count n) (snapshot_fits n p l) (tracker_fits n t) (broken a.property a.plant a.index a.test))
       (λ e. (e.0, (broken_exactly c a).0 e.1), λ e. (e.0, (broken_exactly c a).1 e.1))
 
-  pub tick_pass_exactly : (tick_answer n p l t ≡ Pass) ↔ ((tick_refusal n p l t ≡ Pass) × ((a : Place) → AskedAt c a → HoldsAt c a))
+  pub tick_pass_exactly : (tick_answer n p l t ≡ Ok tt) ↔ ((tick_refusal n p l t ≡ Ok tt) × ((a : Place) → AskedAt c a → HoldsAt c a))
   unfolding tick_answer
   tick_pass_exactly = (
-    λ e. let w = then_pass (tick_refusal n p l t) (tick_judged c) e in (w.0, (pass_exactly c).0 w.1),
-    λ e. rw e.0 ((pass_exactly c).1 e.1),
+    λ e. let w = passed_both n p l t e in (w.0, (pass_exactly c).0 w.1),
+    λ e. rw (e.0, (pass_exactly c).1 e.1),
   )
 
-  pub tick_refused_exactly : ((tick_answer n p l t ≡ Refused PlantCount) ↔ (plant_count n ≡ false))
-      × ((tick_answer n p l t ≡ Refused BadSnapshot) ↔ ((plant_count n ≡ true) × (snapshot_fits n p l ≡ false)))
-      × ((tick_answer n p l t ≡ Refused BadTracker)
+  pub tick_refused_exactly : ((tick_answer n p l t ≡ Err (Refused PlantCount)) ↔ (plant_count n ≡ false))
+      × ((tick_answer n p l t ≡ Err (Refused BadSnapshot)) ↔ ((plant_count n ≡ true) × (snapshot_fits n p l ≡ false)))
+      × ((tick_answer n p l t ≡ Err (Refused BadTracker))
       ↔ ((plant_count n ≡ true) × (snapshot_fits n p l ≡ true) × (tracker_fits n t ≡ false)))
   unfolding tick_answer tick_refusal
   tick_refused_exactly = (
-    count_refused (tick_judged c) never (plant_count n) (snapshot_fits n p l) (tracker_fits n t),
-    snapshot_refused (tick_judged c) never (plant_count n) (snapshot_fits n p l) (tracker_fits n t),
-    tracker_refused (tick_judged c) never (plant_count n) (snapshot_fits n p l) (tracker_fits n t),
+    count_refused (tick_judged c) (plant_count n) (snapshot_fits n p l) (tracker_fits n t),
+    snapshot_refused (tick_judged c) (plant_count n) (snapshot_fits n p l) (tracker_fits n t),
+    tracker_refused (tick_judged c) (plant_count n) (snapshot_fits n p l) (tracker_fits n t),
   )

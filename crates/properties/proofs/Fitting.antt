@@ -18,20 +18,18 @@ use Rattle.properties_remembering.proofs.After.{after_tracked}
 use Rattle.properties_tracker.specs.Calls.{fresh_answer, fresh_words, reboot_answer, reboot_words}
 use Rattle.properties_tick.specs.Calls.{tick_answer, tick_words}
 use Rattle.properties_tick.proofs.Passed.{tick_known}
-use Rattle.properties_verdicts.specs.declared.Answer.{Answer}
-use Rattle.properties_verdicts.specs.declared.Answer.TheVariants.{Pass, Broken, Refused}
+use Rattle.std.specs.Prelude.{⊤, Result, Ok, Err}
 
 -- the words that only a pass changes
-pub either : (a : Answer) (after before : List ℕ) (P : List ℕ → Type 0) → (a ≡ Pass → P after) → P before → P (on_pass a after before)
-either Pass after before P h b = h refl
-either (Broken p r i t) after before P h b = b
-either (Refused x) after before P h b = b
+pub either : {E : Type 0} (a : Result ⊤ E) (after before : List ℕ) (P : List ℕ → Type 0) → (a ≡ Ok tt → P after) → P before → P (on_pass a after before)
+either (Ok x) after before P h b = h refl
+either (Err x) after before P h b = b
 
 -- the words of a fresh tracker
 abbrev blank : ℕ → List ℕ
 blank n = replicate (tracker_words n - 1) 0
 
-pub fresh_fits : (n : ℕ) (t : List ℕ) → fresh_answer n (length t) ≡ Pass → tracker_fits n (fresh_words n t) ≡ true
+pub fresh_fits : (n : ℕ) (t : List ℕ) → fresh_answer n (length t) ≡ Ok tt → tracker_fits n (fresh_words n t) ≡ true
 unfolding fresh_words
 fresh_fits n t e = rw e (tracker_fits_lem n (n ∷ blank n) made)
   where
@@ -57,7 +55,7 @@ unfolding reboot_words
 reboot_fits n id t h =
     either (reboot_answer n id t) (set t (last_at id) 0) t (λ w. tracker_fits n w ≡ true) (λ e. tracker_fits_lem n (set t (last_at id) 0) (restarted e)) h
   where
-    restarted : reboot_answer n id t ≡ Pass → Tracked n (set t (last_at id) 0)
+    restarted : reboot_answer n id t ≡ Ok tt → Tracked n (set t (last_at id) 0)
     restarted e =
         let k = tracker_known n t h in
         let one = get_or-set_other t (last_at id) length_at 0 0 (omega arith) in

@@ -4,25 +4,23 @@ use native.Mathlib.Decide.{dec_lt}
 use mathlib.Core.Logic.{◌↔◌}
 use mathlib.Core.Path.{◌≡◌, refl, sym, ap, ◌∙◌}
 use Prim.Native.Nat.{ℕ, zero, suc, ◌+◌, ◌≤◌, ◌<◌}
+use Rattle.std.specs.Prelude.{⊤, Result, Ok, Err}
 use Rattle.properties_verdicts.specs.Verdicts.{and_then, first_answer}
-use Rattle.properties_verdicts.proofs.First.{broken_no_pass, then_stop}
-use Rattle.properties_verdicts.specs.declared.Answer.{Answer}
-use Rattle.properties_verdicts.specs.declared.Answer.TheVariants.{Pass, Broken, Refused}
-use Rattle.properties_verdicts.specs.declared.Property.{Property}
+use Rattle.properties_verdicts.proofs.First.{no_pass}
 
--- an answer at one of the numbers from `from` up, `count` of them, and a pass at those before it
-abbrev pub Found : (ℕ → Answer) → (from count : ℕ) → Answer → Type 0
-Found f from count a = (j : ℕ) × (from ≤ j) × (j < from + count) × (f j ≡ a) × ((k : ℕ) → from ≤ k → k < j → f k ≡ Pass)
+-- an error at one of the numbers from `from` up, `count` of them, and a pass at those before it
+abbrev pub Found : {E : Type 0} → (ℕ → Result ⊤ E) → (from count : ℕ) → E → Type 0
+Found f from count x = (j : ℕ) × (from ≤ j) × (j < from + count) × (f j ≡ Err x) × ((k : ℕ) → from ≤ k → k < j → f k ≡ Ok tt)
 
-module _ (a : Answer) (stops : a ≡ Pass → ⊥) where
-  found : (f : ℕ → Answer) (from count : ℕ) → first_answer f from count ≡ a → Found f from count a
+module _ {E : Type 0} (x : E) where
+  found : (f : ℕ → Result ⊤ E) (from count : ℕ) → first_answer f from count ≡ Err x → Found f from count x
   unfolding first_answer
-  found f from zero e = absurd (stops (sym e))
+  found f from zero e = absurd (no_pass x (sym e))
   found f from (suc count) e = go (f from) refl e (found f (suc from) count)
     where
-      go : (x : Answer) → f from ≡ x → and_then x (first_answer f (suc from) count) ≡ a
-          → (first_answer f (suc from) count ≡ a → Found f (suc from) count a) → Found f from (suc count) a
-      go Pass q g more =
+      go : (y : Result ⊤ E) → f from ≡ y → and_then y (first_answer f (suc from) count) ≡ Err x
+          → (first_answer f (suc from) count ≡ Err x → Found f (suc from) count x) → Found f from (suc count) x
+      go (Ok u) q g more =
           let w = more g in (
             w.0,
             omega (arith, w.1),
@@ -31,11 +29,10 @@ module _ (a : Answer) (stops : a ≡ Pass → ⊥) where
             λ k l m.
                 elim (dec_lt from k) [ yes o ↦ w.4 k o m | no o ↦ let z : k ≡ from = omega arith in ap f z ∙ q ],
           )
-      go (Broken p r i t) q g more = (from, omega arith, omega arith, q ∙ g, λ k l m. absurd (omega arith))
-      go (Refused x) q g more = (from, omega arith, omega arith, q ∙ g, λ k l m. absurd (omega arith))
+      go (Err y) q g more = (from, omega arith, omega arith, q ∙ g, λ k l m. absurd (omega arith))
 
-  found_first : (f : ℕ → Answer) (from count j : ℕ) → from ≤ j → j < from + count → f j ≡ a → ((k : ℕ) → from ≤ k → k < j → f k ≡ Pass)
-      → first_answer f from count ≡ a
+  found_first : (f : ℕ → Result ⊤ E) (from count j : ℕ) → from ≤ j → j < from + count → f j ≡ Err x → ((k : ℕ) → from ≤ k → k < j → f k ≡ Ok tt)
+      → first_answer f from count ≡ Err x
   unfolding first_answer
   found_first f from zero j l m e before = absurd (omega arith)
   found_first f from (suc count) j l m e before =
@@ -45,13 +42,8 @@ module _ (a : Answer) (stops : a ≡ Pass → ⊥) where
             (found_first f (suc from) count j o (omega arith) e (λ k g h. before k (omega arith) h))
         | no o ↦
             let z : from ≡ j = omega arith in
-            rw (ap f z ∙ e) (then_stop a (first_answer f (suc from) count) stops)
+            rw (ap f z ∙ e)
       ]
 
-  pub first_exactly : (f : ℕ → Answer) (from count : ℕ) → (first_answer f from count ≡ a) ↔ Found f from count a
+  pub first_exactly : (f : ℕ → Result ⊤ E) (from count : ℕ) → (first_answer f from count ≡ Err x) ↔ Found f from count x
   first_exactly f from count = (found f from count, λ w. found_first f from count w.0 w.1 w.2 w.3 w.4)
-
--- so of a broken place
-pub first_broken_exactly : (f : ℕ → Answer) (from count : ℕ) (p : Property) (r i t : ℕ)
-    → (first_answer f from count ≡ Broken p r i t) ↔ Found f from count (Broken p r i t)
-first_broken_exactly f from count p r i t = first_exactly (Broken p r i t) (broken_no_pass p r i t) f from count

@@ -9,15 +9,14 @@ use mathlib.Core.Path.{◌≡◌, refl, sym, ap, ◌∙◌, subst}
 use Prim.Native.Nat.{ℕ, ◌+◌, ◌≤◌, ◌<◌}
 use lib.ListN.{get_or}
 use Rattle.properties_snapshots.specs.Cluster.{Cluster}
-use Rattle.properties_verdicts.specs.Verdicts.{property_number, and_then, first_answer}
-use Rattle.properties_verdicts.proofs.First.{broken_no_pass, refused_no_pass, first_pass}
+use Rattle.std.specs.Prelude.{⊤, Result, Ok, Err}
+use Rattle.properties_verdicts.specs.Verdicts.{property_number, and_then, first_answer, broken}
+use Rattle.properties_verdicts.proofs.First.{no_pass, first_pass}
 use Rattle.properties.specs.Places.{Place, Before, HoldsAt}
-use Rattle.properties.proofs.Found.{first_exactly, first_broken_exactly}
-use Rattle.properties_verdicts.specs.declared.Answer.{Answer}
-use Rattle.properties_verdicts.specs.declared.Answer.TheVariants.{Pass, Broken, Refused}
+use Rattle.properties.proofs.Found.{first_exactly}
+use Rattle.properties_verdicts.specs.declared.Break.{Break}
 use Rattle.properties_verdicts.specs.declared.Property.{Property}
 use Rattle.properties_verdicts.specs.declared.Property.TheVariants.{CommitNumber, PrefixAgreement, NoDuplicates, Durability, Convergence}
-use Rattle.properties_verdicts.specs.declared.Refusal.{Refusal}
 
 -- ---- the order of places
 abbrev pub number : Place → ℕ
@@ -77,11 +76,12 @@ module _ (a b : Place) where
       meet m n l k = omega arith
 
 -- ---- an answer and its places
-abbrev pub broken_at : Place → Answer
-broken_at a = Broken a.property a.plant a.index a.test
+abbrev pub broken_at : Place → Result ⊤ Break
+broken_at a = Err (broken a.property a.plant a.index a.test)
 
 same_broken : (a b : Place) → broken_at a ≡ broken_at b → a ≡ b
-same_broken a b e = same_place a b (cc) (cc) (cc) (cc)
+same_broken a b e = let q : broken a.property a.plant a.index a.test ≡ broken b.property b.plant b.index b.test = cc in
+    same_place a b (ap (λ (x : Break). x.property) q) (ap (λ (x : Break). x.plant) q) (ap (λ (x : Break). x.index) q) (ap (λ (x : Break). x.test) q)
 
 module _ (c : Cluster) where
   -- the first of some places that fails
@@ -91,8 +91,8 @@ module _ (c : Cluster) where
     pub before : (b : Place) → S b → Before b a → HoldsAt c b
 
   -- an answer that judges them
-  pub data Judged (S : Place → Type 0) (x : Answer) : Type 0 where
-    passes : x ≡ Pass → ((b : Place) → S b → HoldsAt c b) → Judged S x
+  pub data Judged (S : Place → Type 0) (x : Result ⊤ Break) : Type 0 where
+    passes : x ≡ Ok tt → ((b : Place) → S b → HoldsAt c b) → Judged S x
     breaks : (a : Place) → x ≡ broken_at a → FirstIn S a → Judged S x
 
   -- what it answers tells what holds, and the other way round
@@ -101,26 +101,22 @@ module _ (c : Cluster) where
     only_one a b f g =
         neither_before a b (λ h. f.fails (g.before a f.asked h)) (λ h. g.fails (f.before b g.asked h))
 
-    pub broken_is : (x : Answer) → Judged S x → (a : Place) → (x ≡ broken_at a) ↔ FirstIn S a
+    pub broken_is : (x : Result ⊤ Break) → Judged S x → (a : Place) → (x ≡ broken_at a) ↔ FirstIn S a
     broken_is x (passes e h) a = (
-      λ q. absurd (broken_no_pass a.property a.plant a.index a.test (sym q ∙ e)),
+      λ q. absurd (no_pass (broken a.property a.plant a.index a.test) (sym q ∙ e)),
       λ f. absurd (f.fails (h a f.asked)),
     )
     broken_is x (breaks b e f) a = (λ q. subst (FirstIn S) (same_broken b a (sym e ∙ q)) f, λ g. e ∙ ap broken_at (only_one b a f g))
 
-    pub pass_is : (x : Answer) → Judged S x → (x ≡ Pass) ↔ ((b : Place) → S b → HoldsAt c b)
+    pub pass_is : (x : Result ⊤ Break) → Judged S x → (x ≡ Ok tt) ↔ ((b : Place) → S b → HoldsAt c b)
     pass_is x (passes e h) = (λ q. h, λ q. e)
     pass_is x (breaks a e f) = (
-      λ q. absurd (broken_no_pass a.property a.plant a.index a.test (sym e ∙ q)),
+      λ q. absurd (no_pass (broken a.property a.plant a.index a.test) (sym e ∙ q)),
       λ h. absurd (f.fails (h a f.asked)),
     )
 
-    pub not_refused : (x : Answer) (r : Refusal) → Judged S x → x ≡ Refused r → ⊥
-    not_refused x r (passes e h) q = refused_no_pass r (sym q ∙ e)
-    not_refused x r (breaks a e f) q = let z : ◌≡◌ {A = ℕ} 0 1 = cc in omega arith
-
     -- a test of the only place
-    pub one_judged : (a : Place) (b : Bool) → S a → ((d : Place) → S d → d ≡ a) → (b ≡ true) ↔ HoldsAt c a → Judged S (cond b Pass (broken_at a))
+    pub one_judged : (a : Place) (b : Bool) → S a → ((d : Place) → S d → d ≡ a) → (b ≡ true) ↔ HoldsAt c a → Judged S (cond b (Ok tt) (broken_at a))
     one_judged a true s only h = passes refl (λ d m. subst (HoldsAt c) (sym (only d m)) (h.0 refl))
     one_judged a false s only h =
         breaks a refl
@@ -132,7 +128,7 @@ module _ (c : Cluster) where
         })
 
   -- the same places
-  pub same_judged : (S T : Place → Type 0) (x : Answer) → ((d : Place) → S d ↔ T d) → Judged S x → Judged T x
+  pub same_judged : (S T : Place → Type 0) (x : Result ⊤ Break) → ((d : Place) → S d ↔ T d) → Judged S x → Judged T x
   same_judged S T x e (passes q h) = passes q (λ d m. h d ((e d).1 m))
   same_judged S T x e (breaks a q f) =
       breaks a q
@@ -141,7 +137,7 @@ module _ (c : Cluster) where
   -- places that have a number which does not fall in their order
   module _ (S : Place → Type 0) (key : Place → ℕ) (rises : (a b : Place) → S a → S b → Before a b → key a ≤ key b) where
     -- those up to a bound, and then those over it
-    pub then_judged : (bound : ℕ) (x y : Answer) → Judged (λ d. S d × (key d ≤ bound)) x → Judged (λ d. S d × (bound < key d)) y
+    pub then_judged : (bound : ℕ) (x y : Result ⊤ Break) → Judged (λ d. S d × (key d ≤ bound)) x → Judged (λ d. S d × (bound < key d)) y
         → Judged S (and_then x y)
     then_judged bound x y (passes e h) (passes q g) =
         passes (rw e q) (λ b m. elim (dec_lt bound (key b)) [ yes o ↦ g b (m, o) | no o ↦ h b (m, omega arith) ])
@@ -162,20 +158,20 @@ module _ (c : Cluster) where
         })
 
     -- those of each number in turn
-    pub first_judged : (f : ℕ → Answer) (from count : ℕ) → ((d : Place) → S d → (from ≤ key d) × (key d < from + count))
+    pub first_judged : (f : ℕ → Result ⊤ Break) (from count : ℕ) → ((d : Place) → S d → (from ≤ key d) × (key d < from + count))
         → ((j : ℕ) → from ≤ j → j < from + count → Judged (λ d. S d × (key d ≡ j)) (f j)) → Judged S (first_answer f from count)
     first_judged f from count range each = go (first_answer f from count) refl
       where
-        held : (d : Place) → S d → f (key d) ≡ Pass → HoldsAt c d
+        held : (d : Place) → S d → f (key d) ≡ Ok tt → HoldsAt c d
         held d m e =
             let r = range d m in
             (pass_is (λ b. S b × (key b ≡ key d)) (f (key d)) (each (key d) r.0 r.1)).0 e d (m, refl)
 
-        go : (x : Answer) → first_answer f from count ≡ x → Judged S (first_answer f from count)
-        go Pass e = passes e (λ d m. let r = range d m in held d m (first_pass f from count e (key d) r.0 r.1))
-        go (Broken p r i t) e =
-            let a : Place = record { property = p; plant = r; index = i; test = t } in
-            let w = (first_broken_exactly f from count p r i t).0 e in
+        go : (x : Result ⊤ Break) → first_answer f from count ≡ x → Judged S (first_answer f from count)
+        go (Ok x) e = passes e (λ d m. let r = range d m in held d m (first_pass f from count e (key d) r.0 r.1))
+        go (Err x) e =
+            let a : Place = record { property = x.property; plant = x.plant; index = x.index; test = x.test } in
+            let w = (first_exactly x f from count).0 e in
             let g = (broken_is (λ b. S b × (key b ≡ w.0)) (f w.0) (each w.0 w.1 w.2) a).0 w.3 in
             breaks a e
             (record {
@@ -187,6 +183,3 @@ module _ (c : Cluster) where
                     | no l ↦ g.before b (m, omega (arith, rises b a m g.asked.0 o, g.asked.1)) o
                   ];
             })
-        go (Refused r) e =
-            let w = (first_exactly (Refused r) (refused_no_pass r) f from count).0 e in
-            absurd (not_refused (λ b. S b × (key b ≡ w.0)) (f w.0) r (each w.0 w.1 w.2) w.3)

@@ -3,52 +3,78 @@
 use native.Mathlib.Omega.{arith}
 use mathlib.Core.Bool.{Bool, true, false, true≢false, false≢true}
 use mathlib.Core.Logic.{◌↔◌}
-use mathlib.Core.Path.{◌≡◌, refl}
-use Prim.Native.Nat.{ℕ}
-use Rattle.properties_verdicts.specs.Verdicts.{properties_refusal, and_then, unless}
-use Rattle.properties_verdicts.proofs.First.{refused_no_pass}
-use Rattle.properties.specs.Places.{Place}
-use Rattle.properties.proofs.Judged.{broken_at}
-use Rattle.properties_verdicts.specs.declared.Answer.{Answer}
-use Rattle.properties_verdicts.specs.declared.Answer.TheVariants.{Pass, Refused}
+use mathlib.Core.Path.{◌≡◌, refl, ap}
+use Rattle.std.specs.Prelude.{⊤, Result, Ok, Err}
+use Rattle.properties_verdicts.specs.Verdicts.{properties_refusal, and_then, unless, judged, refused}
+use Rattle.properties_verdicts.proofs.First.{no_pass}
+use Rattle.properties_verdicts.specs.declared.Break.{Break}
+use Rattle.properties_verdicts.specs.declared.Failure.{Failure}
+use Rattle.properties_verdicts.specs.declared.Failure.TheVariants.{Broken, Refused}
 use Rattle.properties_verdicts.specs.declared.Refusal.{Refusal}
 use Rattle.properties_verdicts.specs.declared.Refusal.TheVariants.{PlantCount, BadSnapshot, BadTracker}
 
 -- two refusals of other numbers, and a refusal and a broken place, differ
-apart : (e f : Refusal) → (properties_refusal e ≡ properties_refusal f → ⊥) → Refused e ≡ Refused f → ⊥
+abbrev refusal : Refusal → Result ⊤ Failure
+refusal e = Err (Refused e)
+
+abbrev break : Break → Result ⊤ Failure
+break b = Err (Broken b)
+
+apart : (e f : Refusal) → (properties_refusal e ≡ properties_refusal f → ⊥) → refusal e ≡ refusal f → ⊥
 apart e f d q = d (cc)
 
-clash : (e : Refusal) (a : Place) → Refused e ≡ broken_at a → ⊥
-clash e a q = let z : ◌≡◌ {A = ℕ} 0 1 = cc in omega arith
+clash : (e : Refusal) (b : Break) → refusal e ≡ break b → ⊥
+clash e b q = cc
 
-abbrev pub refusing : Bool → Bool → Bool → Answer
+unlike : (b c : Break) → break b ≡ break c → ◌≡◌ {A = Result ⊤ Break} (Err b) (Err c)
+unlike b c q = let e : b ≡ c = cc in ap (λ (x : Break). Err x) e
+
+abbrev pub refusing : Bool → Bool → Bool → Result ⊤ Refusal
 refusing a b d = and_then (unless PlantCount a) (and_then (unless BadSnapshot b) (unless BadTracker d))
 
--- before an answer that is no refusal
-module _ (y : Answer) (never : (e : Refusal) → y ≡ Refused e → ⊥) where
-  pub count_refused : (a b d : Bool) → (and_then (refusing a b d) y ≡ Refused PlantCount) ↔ (a ≡ false)
+-- what is answered of words that are not refused is no refusal, and tells a break exactly if it was one
+never : (y : Result ⊤ Break) (e : Refusal) → judged y ≡ refusal e → ⊥
+never (Ok x) e q = cc
+never (Err b) e q = cc
+
+told : (y : Result ⊤ Break) (b : Break) → (judged y ≡ break b) ↔ (y ≡ Err b)
+told (Ok x) b = (λ q. absurd (no_broken q), λ q. absurd (no_error q))
+  where
+    no_broken : ◌≡◌ {A = Result ⊤ Failure} (Ok tt) (break b) → ⊥
+    no_broken q = cc
+
+    no_error : ◌≡◌ {A = Result ⊤ Break} (Ok x) (Err b) → ⊥
+    no_error q = cc
+told (Err c) b = (unlike c b, ap judged)
+
+-- before what is judged
+module _ (y : Result ⊤ Break) where
+  abbrev answer : Bool → Bool → Bool → Result ⊤ Failure
+  answer a b d = and_then (refused (refusing a b d)) (judged y)
+
+  pub count_refused : (a b d : Bool) → (answer a b d ≡ refusal PlantCount) ↔ (a ≡ false)
   unfolding properties_refusal
   count_refused false b d = (λ e. refl, λ e. refl)
   count_refused true false d = (λ e. absurd (apart BadSnapshot PlantCount (omega arith) e), λ e. absurd (true≢false e))
   count_refused true true false = (λ e. absurd (apart BadTracker PlantCount (omega arith) e), λ e. absurd (true≢false e))
-  count_refused true true true = (λ e. absurd (never PlantCount e), λ e. absurd (true≢false e))
+  count_refused true true true = (λ e. absurd (never y PlantCount e), λ e. absurd (true≢false e))
 
-  pub snapshot_refused : (a b d : Bool) → (and_then (refusing a b d) y ≡ Refused BadSnapshot) ↔ ((a ≡ true) × (b ≡ false))
+  pub snapshot_refused : (a b d : Bool) → (answer a b d ≡ refusal BadSnapshot) ↔ ((a ≡ true) × (b ≡ false))
   unfolding properties_refusal
   snapshot_refused false b d = (λ e. absurd (apart PlantCount BadSnapshot (omega arith) e), λ e. absurd (false≢true e.0))
   snapshot_refused true false d = (λ e. (refl, refl), λ e. refl)
   snapshot_refused true true false = (λ e. absurd (apart BadTracker BadSnapshot (omega arith) e), λ e. absurd (true≢false e.1))
-  snapshot_refused true true true = (λ e. absurd (never BadSnapshot e), λ e. absurd (true≢false e.1))
+  snapshot_refused true true true = (λ e. absurd (never y BadSnapshot e), λ e. absurd (true≢false e.1))
 
-  pub tracker_refused : (a b d : Bool) → (and_then (refusing a b d) y ≡ Refused BadTracker) ↔ ((a ≡ true) × (b ≡ true) × (d ≡ false))
+  pub tracker_refused : (a b d : Bool) → (answer a b d ≡ refusal BadTracker) ↔ ((a ≡ true) × (b ≡ true) × (d ≡ false))
   unfolding properties_refusal
   tracker_refused false b d = (λ e. absurd (apart PlantCount BadTracker (omega arith) e), λ e. absurd (false≢true e.0))
   tracker_refused true false d = (λ e. absurd (apart BadSnapshot BadTracker (omega arith) e), λ e. absurd (false≢true e.1))
   tracker_refused true true false = (λ e. (refl, refl, refl), λ e. refl)
-  tracker_refused true true true = (λ e. absurd (never BadTracker e), λ e. absurd (true≢false e.2))
+  tracker_refused true true true = (λ e. absurd (never y BadTracker e), λ e. absurd (true≢false e.2))
 
-  pub then_broken : (a b d : Bool) (x : Place) → (and_then (refusing a b d) y ≡ broken_at x) ↔ ((refusing a b d ≡ Pass) × (y ≡ broken_at x))
-  then_broken false b d x = (λ e. absurd (clash PlantCount x e), λ e. absurd (refused_no_pass PlantCount e.0))
-  then_broken true false d x = (λ e. absurd (clash BadSnapshot x e), λ e. absurd (refused_no_pass BadSnapshot e.0))
-  then_broken true true false x = (λ e. absurd (clash BadTracker x e), λ e. absurd (refused_no_pass BadTracker e.0))
-  then_broken true true true x = (λ e. (refl, e), λ e. e.1)
+  pub then_broken : (a b d : Bool) (x : Break) → (answer a b d ≡ break x) ↔ ((refusing a b d ≡ Ok tt) × (y ≡ Err x))
+  then_broken false b d x = (λ e. absurd (clash PlantCount x e), λ e. absurd (no_pass PlantCount e.0))
+  then_broken true false d x = (λ e. absurd (clash BadSnapshot x e), λ e. absurd (no_pass BadSnapshot e.0))
+  then_broken true true false x = (λ e. absurd (clash BadTracker x e), λ e. absurd (no_pass BadTracker e.0))
+  then_broken true true true x = (λ e. (refl, (told y x).0 e), λ e. (told y x).1 e.1)

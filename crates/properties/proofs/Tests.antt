@@ -13,10 +13,8 @@ use Rattle.properties_snapshots.proofs.Same.{same_entries, entries_same}
 use Rattle.properties_agreement.specs.Agreement.{canonical_entry, agrees}
 use Rattle.properties_duplicates.specs.Duplicates.{id_of, unseen}
 use Rattle.properties_durability.specs.Durability.{participants, needed_copies, copies_of, durable}
-use Rattle.properties_judge.specs.Ticks.{named, asked}
+use Rattle.properties_judge.specs.Ticks.{EntryProperty, PrefixAgreement, NoDuplicates, Durability, named, asked}
 use Rattle.properties.specs.Places.{CommitTest, Holds}
-use Rattle.properties_judge.specs.declared.EntryProperty.{EntryProperty}
-use Rattle.properties_judge.specs.declared.EntryProperty.TheVariants.{PrefixAgreement, NoDuplicates, Durability}
 
 module _ (c : Cluster) (r : ℕ) where
   -- property 1: its three tests

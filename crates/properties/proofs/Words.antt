@@ -20,7 +20,7 @@ use Rattle.properties_tick.proofs.Laws.{written}
 use Rattle.properties.specs.Remembered.{Part, the_count, the_length, a_last, a_canonical, a_seen, Written}
 use Rattle.properties.proofs.Appending.{beyond}
 use Rattle.properties.proofs.Fitting.{either}
-use Rattle.properties_verdicts.specs.declared.Answer.TheVariants.{Pass}
+use Rattle.std.specs.Prelude.{Ok}
 
 -- every word is in a part
 pub parts : (n k : ℕ) → k < tracker_words n → Part n k
@@ -91,7 +91,7 @@ module _ (n k : ℕ) where
   pub one_part : (a b : Part n k) → told a ≡ told b
   one_part a b = told_by_place a ∙ sym (told_by_place b)
 
-pub pass_writes : (n : ℕ) (p l t : List ℕ) → tick_answer n p l t ≡ Pass → Written n p l t (tick_words n p l t)
+pub pass_writes : (n : ℕ) (p l t : List ℕ) → tick_answer n p l t ≡ Ok tt → Written n p l t (tick_words n p l t)
 pass_writes n p l t pass =
     let c = cluster_in n p l t in
     let known = tick_known n p l t pass in
@@ -117,7 +117,7 @@ pass_writes n p l t pass =
           (λ a. after_past n p l t s k f r i h o (omega (arith, commit_held n p l t r h))) e;
     })
 
-pub no_pass_writes_nothing : (n : ℕ) (p l t : List ℕ) → (tick_answer n p l t ≡ Pass → ⊥) → tick_words n p l t ≡ t
+pub no_pass_writes_nothing : (n : ℕ) (p l t : List ℕ) → (tick_answer n p l t ≡ Ok tt → ⊥) → tick_words n p l t ≡ t
 unfolding tick_words
 no_pass_writes_nothing n p l t h =
     either (tick_answer n p l t) (remembered (cluster_in n p l t) t) t (λ w. w ≡ t) (λ e. absurd (h e)) refl

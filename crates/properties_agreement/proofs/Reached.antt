@@ -5,10 +5,12 @@ use native.Mathlib.Omega.{arith}
 use native.Mathlib.Decide.{dec_lt}
 use mathlib.Core.Bool.{Bool, true, false, cond}
 use mathlib.Core.List.{List}
-use mathlib.Core.Path.{◌≡◌}
+use mathlib.Core.Path.{◌≡◌, sym, ◌∙◌}
 use Prim.Native.Nat.{ℕ, zero, suc, ◌+◌, ◌-◌, ◌≤◌, ◌<◌}
 use lib.Dec.{ltb}
 use lib.ListN.{get_or}
+use Rattle.std.proofs.Common.{Option, Some, None}
+use Rattle.std.specs.Option.{MatchOption, unwrap_or}
 use Rattle.properties_snapshots.specs.Cluster.{Cluster, plant, entry, entry_in, cluster_in}
 use Rattle.properties_snapshots.specs.Layout.{commit_at, entry_at, length_at, canonical_at}
 use Rattle.properties_snapshots.specs.Shape.{Snapshot, Forward}
@@ -36,6 +38,38 @@ has_it c i q (suc k) r l m h =
   where
     later : (i < (plant c q).commit → ⊥) → suc q ≤ r
     later g = elim (dec_lt q r) [ yes o ↦ o | no o ↦ let z : r ≡ q = omega arith in absurd (g (rw z at h)) ]
+
+-- the first that has it, or the last of those in a row
+pub first_of : (c : Cluster) (i q k j : ℕ) → q ≤ j → j < q + k → i < (plant c j).commit → ((m : ℕ) → q ≤ m → m < j → (plant c m).commit ≤ i)
+    → committer_from c i q k ≡ j
+unfolding committer_from
+first_of c i q zero j l m h b = absurd (omega arith)
+first_of c i q (suc k) j l m h b =
+    elim (dec_lt q j) [
+      | yes g ↦ rw (le-ltb i (plant c q).commit (b q (omega arith) g)) (first_of c i (suc q) k j (omega arith) (omega arith) h (λ u v w. b u (omega arith) w))
+      | no g ↦ let z : j ≡ q = omega arith in rw (lt-ltb i (plant c q).commit (rw z at h)) (sym z)
+    ]
+
+pub none_of : (c : Cluster) (i q k : ℕ) → ((m : ℕ) → q ≤ m → m < q + k → (plant c m).commit ≤ i) → committer_from c i q k ≡ q + k
+unfolding committer_from
+none_of c i q zero b = omega arith
+none_of c i q (suc k) b =
+    let z : suc q + k ≡ q + suc k = omega arith in
+    rw (le-ltb i (plant c q).commit (b q (omega arith) (omega arith))) (none_of c i (suc q) k (λ u v w. b u (omega arith) (omega arith)) ∙ z)
+
+-- what a search over the plants, but for the last, has found
+pub first_found : (n : ℕ) (p l t : List ℕ) (i : ℕ) (o : Option ℕ)
+    → MatchOption o ((k : ℕ) → 0 ≤ k → k < n - 1 → get_or p (commit_at k) 0 ≤ i)
+    (λ q. (0 ≤ q) × (q < n - 1) × (i < get_or p (commit_at q) 0) × ((k : ℕ) → 0 ≤ k → k < q → get_or p (commit_at k) 0 ≤ i))
+    → unwrap_or o (n - 1) ≡ committer (cluster_in n p l t) i
+unfolding committer
+first_found n p l t i None h =
+    let c = cluster_in n p l t in
+    omega (arith, none_of c i 0 (n - 1) (λ m u v. omega (arith, h m u (omega arith), commit_held n p l t m (omega arith))))
+first_found n p l t i (Some q) h =
+    let c = cluster_in n p l t in
+    sym (first_of c i 0 (n - 1) q h.0 (omega (arith, h.1)) (omega (arith, h.2, commit_held n p l t q (omega (arith, h.1))))
+    (λ m u v. omega (arith, h.3 m u v, commit_held n p l t m (omega (arith, h.1)))))
 
 pub committer_below : (c : Cluster) (i : ℕ) → 1 ≤ c.size → committer c i < c.size
 unfolding committer

@@ -3,43 +3,44 @@
 
 ghost use Rattle.std.specs.Prelude.{List, ◌≡◌, ℕ, ◌*◌, ◌≤◌, ◌<◌, length, get_or};
 ghost use Rattle.basis.specs.Basis.{fewest, most};
-ghost use Rattle.properties_snapshots.specs.Cluster.{cluster_in};
-ghost use Rattle.properties_snapshots.specs.Layout.{plant_words, commit_at};
-ghost use Rattle.properties_snapshots.specs.Shape.{Snapshot, Tracked, Forward};
-ghost use Rattle.properties_agreement.specs.Agreement.{committer, agrees};
+ghost use Rattle.properties_snapshots.specs.Cluster.{words_of_entry, cluster_in};
+ghost use Rattle.properties_snapshots.specs.Layout.{log_entries, plant_words, commit_at};
+ghost use Rattle.properties_snapshots.specs.Snapshots.{cluster_at};
+ghost use Rattle.properties_agreement.specs.Agreement.{committer, canonical_entry, agrees};
 
-use properties_snapshots::LENGTH;
+use properties_snapshots::Advance;
 
-// Property 3: the entry equals the canonical one, which is the tracker's or that of the first plant that committed it.
-pub fn agrees(n: usize, plants: &[u64], logs: &[u64], tracker: &[u64], r: usize, i: usize) -> bool
-    requires snapshot { Snapshot n plants.now logs.now × Tracked n tracker.now × Forward n plants.now tracker.now }
-    requires r_lt_n { (r < n) × (i < get_or plants.now (commit_at r) 0) }
-    ensures { result ≡ agrees (cluster_in n plants.now logs.now tracker.now) r i }
+// Property 3: the entry equals the canonical one.
+pub fn agrees(advance: &Advance<'_>, r: usize, i: usize) -> bool
+    requires { (r < advance.now.snapshot.n) × (i < get_or advance.now.snapshot.plants.now (commit_at r) 0) }
+    ensures { result ≡ agrees (cluster_at advance.now) r i }
 {
-    if i < properties_snapshots::number(tracker, LENGTH) {
-        let known = properties_snapshots::canonical_at(n, i);
-        return properties_snapshots::same_entry(
-            tracker,
-            known,
-            logs,
-            properties_snapshots::entry_at(r, i),
-        );
+    canonical_entry(advance, i) == advance.snapshot.entry(r, i)
+}
+
+// The canonical entry at an index that one of the plants has committed, in its words: the tracker's, or that of the first plant that
+// committed it.
+pub fn canonical_entry<'a>(advance: &Advance<'a>, i: usize) -> &'a [u64]
+    requires { i < log_entries }
+    ensures { (r : ℕ) → r < advance.now.snapshot.n → i < get_or advance.now.snapshot.plants.now (commit_at r) 0
+        → result.now ≡ words_of_entry (canonical_entry (cluster_at advance.now) i) }
+{
+    if i < advance.known() {
+        return advance.canonical(i);
     }
-    let q = committer(n, plants, i);
-    properties_snapshots::same_logged(logs, q, r, i)
+    let snapshot = &advance.snapshot;
+    let q = committer(snapshot.n, snapshot.plants, i);
+    snapshot.entry(q, i)
 }
 
 // The first plant that has committed an index that one of them has.
+// Kept: it takes n and the plants' words, and no `Snapshot`: docs/PROMISES.md has it ask for words of the right number alone.
 pub fn committer(n: usize, plants: &[u64], i: usize) -> usize
     requires { (fewest ≤ n) × (n ≤ most) × (length plants.now ≡ n * plant_words) }
-    ensures { (l t : List ℕ) → result ≡ committer (cluster_in n plants.now l t) i }
+    ensures below { result < n }
+    ensures first { (l t : List ℕ) → result ≡ committer (cluster_in n plants.now l t) i }
 {
-    let mut q: usize = 0;
-    while q < n - 1 {
-        if i < properties_snapshots::commit_of(plants, q) {
-            return q;
-        }
-        q += 1;
-    }
-    q
+    (0..n - 1)
+        .find(|q| i < properties_snapshots::commit_of(plants, *q))
+        .unwrap_or(n - 1)
 }

@@ -7,29 +7,33 @@ use mathlib.Core.Path.{◌≡◌, refl}
 use Prim.Native.Nat.{ℕ, ◌≤◌, ◌<◌}
 use lib.Dec.{leb, eqb}
 use lib.ListN.{length, get_or}
+use Rattle.std.specs.Prelude.{Ok, Err}
 use Rattle.properties_snapshots.specs.Cluster.{plant, last, cluster_in}
 use Rattle.properties_snapshots.specs.Layout.{commit_at, op_at, size_at, last_at}
 use Rattle.properties_snapshots.specs.Shape.{Forward}
 use Rattle.properties_snapshots.proofs.Held.{commit_held, op_held, size_held, last_held}
-use Rattle.properties_verdicts.proofs.First.{broken_no_pass, first_pass}
-use Rattle.properties_commits.specs.Commits.{commit_tests, commit_numbers}
-use Rattle.properties_verdicts.specs.declared.Answer.TheVariants.{Pass, Broken}
+use Rattle.properties_verdicts.proofs.First.{no_pass, first_pass}
+use Rattle.properties_verdicts.specs.Verdicts.{broken}
 use Rattle.properties_verdicts.specs.declared.Property.TheVariants.{CommitNumber}
+use Rattle.properties_commits.specs.Commits.{commit_tests, commit_numbers}
+
+abbrev pass : Unit {0}
+pass = tt
 
 -- property 1 of a plant that passes
-passed : (r commit op size was : ℕ) → commit_tests r commit op size was ≡ Pass → (op ≡ size) × (commit ≤ op) × (was ≤ commit)
+passed : (r commit op size was : ℕ) → commit_tests r commit op size was ≡ Ok tt → (op ≡ size) × (commit ≤ op) × (was ≤ commit)
 unfolding commit_tests
 passed r commit op size was e = go (eqb op size) (leb commit op) (leb was commit) refl refl refl e
   where
     go : (a b c : Bool) → eqb op size ≡ a → leb commit op ≡ b → leb was commit ≡ c
-        → cond a (cond b (cond c Pass (Broken CommitNumber r 0 3)) (Broken CommitNumber r 0 2)) (Broken CommitNumber r 0 1) ≡ Pass
+        → cond a (cond b (cond c (Ok pass) (Err (broken CommitNumber r 0 3))) (Err (broken CommitNumber r 0 2))) (Err (broken CommitNumber r 0 1)) ≡ Ok pass
         → (op ≡ size) × (commit ≤ op) × (was ≤ commit)
     go true true true x y z e = (eqb-true op size x, leb-true commit op y, leb-true was commit z)
-    go true true false x y z e = absurd (broken_no_pass CommitNumber r 0 3 e)
-    go true false c x y z e = absurd (broken_no_pass CommitNumber r 0 2 e)
-    go false b c x y z e = absurd (broken_no_pass CommitNumber r 0 1 e)
+    go true true false x y z e = absurd (no_pass (broken CommitNumber r 0 3) e)
+    go true false c x y z e = absurd (no_pass (broken CommitNumber r 0 2) e)
+    go false b c x y z e = absurd (no_pass (broken CommitNumber r 0 1) e)
 
-pub forward_known : (n : ℕ) (p l t : List ℕ) → commit_numbers (cluster_in n p l t) ≡ Pass → Forward n p t
+pub forward_known : (n : ℕ) (p l t : List ℕ) → commit_numbers (cluster_in n p l t) ≡ Ok tt → Forward n p t
 unfolding commit_numbers
 forward_known n p l t e =
     record { within = λ r h. omega (arith, known r h); onward = λ r h. (known r h).2 }

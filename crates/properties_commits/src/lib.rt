@@ -7,40 +7,41 @@ ghost use Rattle.properties_snapshots.specs.Cluster.{cluster_in};
 ghost use Rattle.properties_snapshots.specs.Layout.{plant_words, tracker_words};
 ghost use Rattle.properties_commits.specs.Commits.{commit_tests, commit_numbers};
 
-use properties_verdicts::{Answer, Property};
+use properties_verdicts::{Break, Property};
 
 // Property 1 over all plants; what the logs hold plays no part.
-pub fn commit_numbers(n: usize, plants: &[u64], tracker: &[u64]) -> Answer
+pub fn commit_numbers(n: usize, plants: &[u64], tracker: &[u64]) -> Result<(), Break>
     requires { (n ≤ most) × (length plants.now ≡ n * plant_words) × (length tracker.now ≡ tracker_words n) }
     ensures { (l : List ℕ) → result ≡ commit_numbers (cluster_in n plants.now l tracker.now) }
 {
-    let mut r: usize = 0;
-    while r < n {
+    for r in 0..n {
         let commit = properties_snapshots::commit_of(plants, r);
         let op = properties_snapshots::op_of(plants, r);
         let size = properties_snapshots::size_of(plants, r);
         let last = properties_snapshots::last_of(tracker, r);
-        let tested = commit_number(r, commit, op, size, last);
-        let Answer::Pass = tested else {
-            return tested;
-        };
-        r += 1;
+        commit_number(r, commit, op, size, last)?;
     }
-    Answer::Pass
+    Ok(())
 }
 
 // Property 1 of a plant.
-fn commit_number(r: usize, commit: usize, op: usize, size: usize, last: usize) -> Answer
+#[tactic(auto, unfolding(crate::specs::Commits::commit_tests))]
+fn commit_number(r: usize, commit: usize, op: usize, size: usize, last: usize) -> Result<(), Break>
     ensures { result ≡ commit_tests r commit op size last }
 {
-    if op != size {
-        return properties_verdicts::broken(Property::CommitNumber, r, 0, 1);
-    }
-    if op < commit {
-        return properties_verdicts::broken(Property::CommitNumber, r, 0, 2);
-    }
-    if commit < last {
-        return properties_verdicts::broken(Property::CommitNumber, r, 0, 3);
-    }
-    Answer::Pass
+    let test = if op != size {
+        1
+    } else if op < commit {
+        2
+    } else if commit < last {
+        3
+    } else {
+        return Ok(());
+    };
+    Err(Break {
+        property: Property::CommitNumber,
+        plant: r,
+        index: 0,
+        test,
+    })
 }

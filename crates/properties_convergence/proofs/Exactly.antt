@@ -12,12 +12,12 @@ use lib.ListN.{length, get_or}
 use lib.Seq.{ext_get_or}
 use Rattle.properties_snapshots.specs.Cluster.{LogEntry, Cluster, same_entry, no_entry, plant, entry}
 use Rattle.properties_snapshots.proofs.Same.{same_entries, entries_same}
-use Rattle.properties_verdicts.specs.Verdicts.{first_answer, first_failed, at_entry}
-use Rattle.properties_verdicts.proofs.First.{broken_no_pass, then_pass, test_holds, first_pass, all_pass}
+use Rattle.std.specs.Prelude.{⊤, Result, Ok}
+use Rattle.properties_verdicts.specs.Verdicts.{first_answer, first_failed, at_entry, broken}
+use Rattle.properties_verdicts.proofs.First.{no_pass, then_pass, test_holds, first_pass, all_pass}
 use Rattle.properties_convergence.specs.Convergence.{same_value, converged_with, converged}
 use Rattle.properties_convergence.proofs.Values.{told_same, same_told}
-use Rattle.properties_verdicts.specs.declared.Answer.{Answer}
-use Rattle.properties_verdicts.specs.declared.Answer.TheVariants.{Pass}
+use Rattle.properties_verdicts.specs.declared.Break.{Break}
 use Rattle.properties_verdicts.specs.declared.Property.{Property}
 use Rattle.properties_verdicts.specs.declared.Property.TheVariants.{Convergence}
 
@@ -28,15 +28,15 @@ pub record Alike (c : Cluster) (values : List ℤ) (reference id : ℕ) : Type 0
   pub value : get_or values id (pos 0) ≡ get_or values reference (pos 0)
 
 -- the first of several tests that pass
-first_holds : (p : Property) (r t : ℕ) (b : Bool) (bs : List Bool) → first_failed p r t (b ∷ bs) ≡ Pass → (b ≡ true) × (first_failed p r (suc t) bs ≡ Pass)
+first_holds : (p : Property) (r t : ℕ) (b : Bool) (bs : List Bool) → first_failed p r t (b ∷ bs) ≡ Ok tt → (b ≡ true) × (first_failed p r (suc t) bs ≡ Ok tt)
 first_holds p r t true bs e = (refl, e)
-first_holds p r t false bs e = absurd (broken_no_pass p r 0 t e)
+first_holds p r t false bs e = absurd (no_pass (broken p r 0 t) e)
 
 module _ (c : Cluster) (values : List ℤ) (reference id : ℕ) where
-  abbrev compared : ℕ → Answer
+  abbrev compared : ℕ → Result ⊤ Break
   compared i = at_entry Convergence id i 2 (same_entry (entry c id i) (entry c reference i))
 
-  alike : converged_with c values reference id ≡ Pass → Alike c values reference id
+  alike : converged_with c values reference id ≡ Ok tt → Alike c values reference id
   unfolding converged_with same_value entry
   alike e =
       let a = then_pass (first_failed Convergence id 1 (eqb (length (plant c id).log) (length (plant c reference).log) ∷ [])) _ e in
@@ -51,7 +51,7 @@ module _ (c : Cluster) (values : List ℤ) (reference id : ℕ) where
         value = same_told (ℤ_discrete (get_or values id (pos 0)) (get_or values reference (pos 0))) (first_holds Convergence id 4 _ [] d.1).0;
       }
 
-  passes : Alike c values reference id → converged_with c values reference id ≡ Pass
+  passes : Alike c values reference id → converged_with c values reference id ≡ Ok tt
   unfolding converged_with same_value entry
   passes a =
       rw (
@@ -65,7 +65,7 @@ module _ (c : Cluster) (values : List ℤ) (reference id : ℕ) where
 
 -- all of the core
 pub exactly : (c : Cluster) (values : List ℤ) (core : List ℕ)
-    → (converged c values core ≡ Pass) ↔ ((k : ℕ) → k < length core → Alike c values (get_or core 0 0) (get_or core k 0))
+    → (converged c values core ≡ Ok tt) ↔ ((k : ℕ) → k < length core → Alike c values (get_or core 0 0) (get_or core k 0))
 unfolding converged
 exactly c values core = (
   λ e k h. alike c values (get_or core 0 0) (get_or core k 0) (first_pass (λ k. converged_with c values (get_or core 0 0) (get_or core k 0)) 0 (length core) e

@@ -1,4 +1,5 @@
 -- Laws that belong to no one function.
 pub mod Core
+pub mod Rising
 pub mod Values
 pub mod Exactly

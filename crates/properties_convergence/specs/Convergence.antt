@@ -1,9 +1,9 @@
 -- Property 7, convergence, at the end only (RULES, "Properties"). Assumes nothing.
-use Rattle.std.specs.Prelude.{Bool, true, false, List, [], ◌∷◌, ℕ, eqb, ℤ, pos, length, get_or}
+use Rattle.std.specs.Prelude.{Bool, true, false, List, [], ◌∷◌, ℕ, eqb, ℤ, pos, length, get_or, ⊤, Result}
 use Rattle.std.proofs.Math.IntN.{ℤ_discrete}
 use Rattle.properties_snapshots.specs.Cluster.{Cluster, same_entry, plant, entry}
 use Rattle.properties_verdicts.specs.Verdicts.{and_then, first_answer, first_failed, at_entry}
-use Rattle.properties_verdicts.specs.declared.Answer.{Answer}
+use Rattle.properties_verdicts.specs.declared.Break.{Break}
 use Rattle.properties_verdicts.specs.declared.Property.TheVariants.{Convergence}
 
 -- two values are equal
@@ -15,7 +15,7 @@ unfoldable pub same_value : ℤ → ℤ → Bool
 same_value a b = is_yes (ℤ_discrete a b)
 
 -- the tests of the plant `id` against the first of the core: length, entries, commit = length, value
-unfoldable pub converged_with : Cluster → List ℤ → ℕ → ℕ → Answer
+unfoldable pub converged_with : Cluster → List ℤ → ℕ → ℕ → Result ⊤ Break
 converged_with c values reference id =
     and_then (first_failed Convergence id 1 (eqb (length (plant c id).log) (length (plant c reference).log) ∷ []))
     (and_then
@@ -26,6 +26,6 @@ converged_with c values reference id =
     ∷ [])))
 
 -- core plant by core plant, the first of them too
-unfoldable pub converged : Cluster → List ℤ → List ℕ → Answer
+unfoldable pub converged : Cluster → List ℤ → List ℕ → Result ⊤ Break
 converged c values core =
     first_answer (λ k. converged_with c values (get_or core 0 0) (get_or core k 0)) 0 (length core)

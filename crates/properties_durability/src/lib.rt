@@ -1,25 +1,24 @@
 // Property 6: a committed entry is held by enough plants to be in every quorum that those not recovering could form.
 #![tactic(auto)]
 
-ghost use Rattle.std.specs.Prelude.{List, ◌≡◌, ℕ, ◌+◌, ◌*◌, ◌≤◌, ◌<◌, length, get_or};
+ghost use Rattle.std.specs.Prelude.{List, ◌≡◌, ℕ, ◌*◌, ◌≤◌, ◌<◌, length, get_or};
 ghost use Rattle.basis.specs.Basis.{most};
 ghost use Rattle.properties_snapshots.specs.Below.{count_below};
-ghost use Rattle.properties_snapshots.specs.Cluster.{entry_in, cluster_in};
-ghost use Rattle.properties_snapshots.specs.Layout.{entry_words, log_entries, plant_words, size_at};
-ghost use Rattle.properties_snapshots.specs.Shape.{Snapshot};
+ghost use Rattle.properties_snapshots.specs.Cluster.{LogEntry, words_of_entry, cluster_in};
+ghost use Rattle.properties_snapshots.specs.Layout.{log_entries, plant_words, size_at};
+ghost use Rattle.properties_snapshots.specs.Snapshots.{cluster_of};
 ghost use Rattle.properties_durability.specs.Durability.{participants, needed_copies, holds_copy, copies_of};
 
+use properties_snapshots::Snapshot;
+
 // So many copies meet every quorum that the plants not recovering could form.
+// Kept: it takes n and the plants' words, and no `Snapshot`: docs/PROMISES.md has it ask for words of the right number alone.
 pub fn needed_copies(n: usize, plants: &[u64]) -> usize
     requires { (n ≤ most) × (length plants.now ≡ n * plant_words) }
     ensures { (l t : List ℕ) → result ≡ needed_copies n (participants (cluster_in n plants.now l t)) }
 {
     let taking = participants(n, plants);
-    let quorum = basis::quorum(n);
-    if taking + 1 <= quorum {
-        return 0;
-    }
-    taking + 1 - quorum
+    (taking + 1).saturating_sub(basis::quorum(n))
 }
 
 fn participants(n: usize, plants: &[u64]) -> usize
@@ -27,60 +26,33 @@ fn participants(n: usize, plants: &[u64]) -> usize
     ensures small { result ≤ n }
     ensures counted { (l t : List ℕ) → result ≡ participants (cluster_in n plants.now l t) }
 {
-    let mut count: usize = 0;
-    let mut q: usize = 0;
-    while q < n {
-        if properties_snapshots::recovering_of(plants, q) != 1 {
-            count += 1;
-        }
-        q += 1;
-    }
-    count
+    (0..n)
+        .filter(|q| properties_snapshots::recovering_of(plants, *q) != 1)
+        .count()
 }
 
 // Property 6: the plants, of those not recovering, that hold the entry of plant r at index i.
-pub fn copies(n: usize, plants: &[u64], logs: &[u64], r: usize, i: usize) -> usize
-    requires { Snapshot n plants.now logs.now × (r < n) × (i < get_or plants.now (size_at r) 0) }
-    ensures { (t : List ℕ) → result ≡ copies_of (cluster_in n plants.now logs.now t) r i }
+pub fn copies(snapshot: &Snapshot<'_>, r: usize, i: usize) -> usize
+    requires { (r < snapshot.now.n) × (i < get_or snapshot.now.plants.now (size_at r) 0) }
+    ensures { (t : List ℕ) → result ≡ copies_of (cluster_of snapshot.now t) r i }
 {
-    let at = properties_snapshots::entry_at(r, i);
-    holders(n, plants, logs, i, logs, at)
+    holders(snapshot, i, snapshot.entry(r, i))
 }
 
-// The plants, of those not recovering, that hold at index i the entry that stands from a place of some words on.
-pub fn holders(n: usize, plants: &[u64], logs: &[u64], i: usize, words: &[u64], at: usize) -> usize
-    requires { Snapshot n plants.now logs.now × (i < log_entries) × (at + entry_words ≤ length words.now) }
-    ensures { (t : List ℕ) → result ≡ count_below n (holds_copy (cluster_in n plants.now logs.now t) i (entry_in words.now at)) }
+// The plants, of those not recovering, that hold at index i the entry of these words.
+pub fn holders(snapshot: &Snapshot<'_>, i: usize, entry: &[u64]) -> usize
+    requires { i < log_entries }
+    ensures { (e : LogEntry) (t : List ℕ) → entry.now ≡ words_of_entry e → result ≡ count_below snapshot.now.n (holds_copy (cluster_of snapshot.now t) i e) }
 {
-    let mut count: usize = 0;
-    let mut q: usize = 0;
-    while q < n {
-        if holds_copy(n, plants, logs, i, words, at, q) {
-            count += 1;
-        }
-        q += 1;
-    }
-    count
+    (0..snapshot.n)
+        .filter(|q| holds_copy(snapshot, i, entry, *q))
+        .count()
 }
 
-fn holds_copy(
-    n: usize,
-    plants: &[u64],
-    logs: &[u64],
-    i: usize,
-    words: &[u64],
-    at: usize,
-    q: usize,
-) -> bool
-    requires { Snapshot n plants.now logs.now × (i < log_entries) × (at + entry_words ≤ length words.now) × (q < n) }
-    ensures { (t : List ℕ) → result ≡ holds_copy (cluster_in n plants.now logs.now t) i (entry_in words.now at) q }
+#[tactic(auto, using(crate::proofs::Held::holds_in_words))]
+fn holds_copy(snapshot: &Snapshot<'_>, i: usize, entry: &[u64], q: usize) -> bool
+    requires { (i < log_entries) × (q < snapshot.now.n) }
+    ensures { (e : LogEntry) (t : List ℕ) → entry.now ≡ words_of_entry e → result ≡ holds_copy (cluster_of snapshot.now t) i e q }
 {
-    if properties_snapshots::recovering_of(plants, q) == 1 {
-        return false;
-    }
-    if properties_snapshots::size_of(plants, q) <= i {
-        return false;
-    }
-    let own = properties_snapshots::entry_at(q, i);
-    properties_snapshots::same_entry(logs, own, words, at)
+    snapshot.recovering_of(q) != 1 && i < snapshot.size_of(q) && snapshot.entry(q, i) == entry
 }

@@ -5,9 +5,11 @@
 ghost use Rattle.std.specs.Prelude.{◌≡◌};
 ghost use Rattle.properties_end.specs.Calls.{end_answer};
 
-use properties_verdicts::{Answer, Refusal};
+use properties_snapshots::Snapshot;
+use properties_verdicts::{Failure, Refusal};
 
 // At the end of a run: property 7 of the core plants, in the tracker's sight and without a word written.
+#[tactic(auto, using(basis::proofs::Laws::between, properties_convergence::proofs::Core::core_known), unfolding(crate::specs::Calls::end_answer, crate::specs::Calls::end_refusal))]
 pub fn end(
     n: usize,
     plants: &[u64],
@@ -15,23 +17,19 @@ pub fn end(
     values: &[i64],
     core: &[u64],
     tracker: &[u64],
-) -> Answer
+) -> Result<(), Failure>
     ensures { result ≡ end_answer n plants.now logs.now values.now core.now tracker.now }
 {
     if !basis::plant_count(n) {
-        return Answer::Refused(Refusal::PlantCount);
+        return Err(Failure::Refused(Refusal::PlantCount));
     }
-    if !properties_snapshots::snapshot_fits(n, plants, logs) {
-        return Answer::Refused(Refusal::BadSnapshot);
-    }
-    if values.len() != n {
-        return Answer::Refused(Refusal::BadSnapshot);
-    }
-    if !properties_convergence::core_fits(n, core) {
-        return Answer::Refused(Refusal::BadSnapshot);
+    let snapshot = Snapshot::new(n, plants, logs).ok_or(Refusal::BadSnapshot)?;
+    if values.len() != n || !properties_convergence::core_fits(n, core) {
+        return Err(Failure::Refused(Refusal::BadSnapshot));
     }
     if !properties_snapshots::tracker_fits(n, tracker) {
-        return Answer::Refused(Refusal::BadTracker);
+        return Err(Failure::Refused(Refusal::BadTracker));
     }
-    properties_convergence::convergence(n, plants, logs, values, core, tracker)
+    properties_convergence::convergence(&snapshot, values, core)?;
+    Ok(())
 }

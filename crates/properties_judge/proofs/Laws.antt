@@ -6,12 +6,11 @@ use Prim.Native.Nat.{ℕ, ◌-◌, ◌≤◌, ◌<◌}
 use Rattle.properties_snapshots.specs.Cluster.{Cluster, plant, last}
 use Rattle.properties_verdicts.specs.Verdicts.{at_entry, over_committed}
 use Rattle.properties_verdicts.proofs.First.{test_holds, first_pass, all_pass}
-use Rattle.properties_judge.specs.Ticks.{named, asked, over_entries}
-use Rattle.properties_verdicts.specs.declared.Answer.TheVariants.{Pass}
-use Rattle.properties_judge.specs.declared.EntryProperty.{EntryProperty}
+use Rattle.properties_judge.specs.Ticks.{EntryProperty, named, asked, over_entries}
+use Rattle.std.specs.Prelude.{Ok}
 
 -- it holds of each entry from last commit up
-pub entry_passed : (p : EntryProperty) (c : Cluster) → over_entries p c ≡ Pass
+pub entry_passed : (p : EntryProperty) (c : Cluster) → over_entries p c ≡ Ok tt
     → (r i : ℕ) → r < c.size → last c r ≤ i → i < (plant c r).commit → asked p c r i ≡ true
 unfolding over_entries
 entry_passed p c e r i h l g =
@@ -22,7 +21,7 @@ entry_passed p c e r i h l g =
 
 -- and it passes if it holds of each
 pub entries_pass : (p : EntryProperty) (c : Cluster)
-    → ((r i : ℕ) → r < c.size → last c r ≤ i → i < (plant c r).commit → asked p c r i ≡ true) → over_entries p c ≡ Pass
+    → ((r i : ℕ) → r < c.size → last c r ≤ i → i < (plant c r).commit → asked p c r i ≡ true) → over_entries p c ≡ Ok tt
 unfolding over_entries
 entries_pass p c h =
     all_pass (λ r. over_committed c r (λ i. at_entry (named p) r i 1 (asked p c r i))) 0 c.size (λ r a b.

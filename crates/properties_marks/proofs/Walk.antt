@@ -1,13 +1,13 @@
 -- The walk over what a plant has newly committed: all ids passed are marked, so that an id which meets no mark is none of them. Assumes nothing.
 use borrow.Author.Tests.{eqb-true, eqb-false, ne_eqb}
 use native.Mathlib.Omega.{arith}
-use mathlib.Core.Bool.{Bool, true, false, not}
+use mathlib.Core.Bool.{Bool, true, false, not, false≢true}
 use mathlib.Core.List.{List}
 use mathlib.Core.Path.{◌≡◌, refl, sym, ap, subst, ◌∙◌}
 use Prim.Native.Nat.{ℕ, ◌+◌, ◌≤◌, ◌<◌, ◌%◌}
 use lib.Dec.{eqb}
-use lib.ListN.{length, get_or, set, length-set}
-use lib.Seq.{get_or-set_same, get_or-set_other}
+use lib.ListN.{length, get_or, set, take, drop, length-set, length-drop}
+use lib.Seq.{get_or-set_same, get_or-set_other, length-take-le, get_or-take, get_or-drop}
 use Rattle.properties_snapshots.specs.Cluster.{Cluster, last, entry, cluster_in}
 use Rattle.properties_snapshots.specs.Layout.{id_at, commit_at, entry_at, last_at, seen_at}
 use Rattle.properties_snapshots.specs.Shape.{Snapshot, Forward}
@@ -17,23 +17,29 @@ use Rattle.properties_duplicates.specs.Duplicates.{id_of, unseen}
 use Rattle.properties_duplicates.proofs.Ids.{id_held, seen, logged}
 use Rattle.properties_marks.specs.Marks.{NoneSeen, marks, Marked}
 
--- a mark that is set, and those that were
-pub mark_set : (m : List ℕ) (id : ℕ) → length m ≡ marks → Marked (set m (id % marks) 1) id
-mark_set m id h e = omega (arith, get_or-set_same m (id % marks) 1 0 (omega (arith, h)))
+-- a word of those taken
+pub taken : (t : List ℕ) (at k m j b : ℕ) → j < k → m ≡ k → at + k ≤ length t → at + j ≡ b
+    → (j < length (take m (drop at t))) × (get_or (take m (drop at t)) j 0 ≡ get_or t b 0)
+taken t at k m j b g e h z =
+    (omega (arith, length-take-le m (drop at t) (omega (arith, length-drop at t))), get_or-take m (drop at t) j 0 (omega arith) ∙ (get_or-drop at t j 0 ∙ ap (λ (x : ℕ). get_or t x 0) z))
 
-pub mark_kept : (m : List ℕ) (id x : ℕ) → length m ≡ marks → Marked m x → Marked (set m (id % marks) 1) x
-mark_kept m id x h old e = go (eqb (x % marks) (id % marks)) refl
+-- a mark that is set, and those that were
+pub mark_set : (m : List Bool) (id : ℕ) → length m ≡ marks → Marked (set m (id % marks) true) id
+mark_set m id h = get_or-set_same m (id % marks) true false (omega (arith, h))
+
+pub mark_kept : (m : List Bool) (id x : ℕ) → length m ≡ marks → Marked m x → Marked (set m (id % marks) true) x
+mark_kept m id x h old = go (eqb (x % marks) (id % marks)) refl
   where
-    go : (b : Bool) → eqb (x % marks) (id % marks) ≡ b → ⊥
-    go true q = mark_set m id h (rw (eqb-true (x % marks) (id % marks) q) at e)
-    go false q = old (sym (get_or-set_other m (id % marks) (x % marks) 1 0 (eqb-false (x % marks) (id % marks) q)) ∙ e)
+    go : (b : Bool) → eqb (x % marks) (id % marks) ≡ b → Marked (set m (id % marks) true) x
+    go true q = ap (λ (k : ℕ). get_or (set m (id % marks) true) k false) (eqb-true (x % marks) (id % marks) q) ∙ mark_set m id h
+    go false q = get_or-set_other m (id % marks) (x % marks) true false (eqb-false (x % marks) (id % marks) q) ∙ old
 
 -- property 4 holds of what was passed of plant r
 abbrev pub Passed : Cluster → ℕ → ℕ → Type 0
 Passed c r i = (k : ℕ) → k < i → last c r ≤ k → unseen c r k ≡ true
 
 -- and every id of the plant that was passed is marked
-pub record Walked (c : Cluster) (r i : ℕ) (m : List ℕ) : Type 0 where
+pub record Walked (c : Cluster) (r i : ℕ) (m : List Bool) : Type 0 where
   pub from : last c r ≤ i
   pub size : length m ≡ marks
   pub marked : (j : ℕ) → j < i → Marked m (id_of c r j)
@@ -52,7 +58,7 @@ module _ (n : ℕ) (p l t : List ℕ) (s : Snapshot n p l) (f : Forward n p t) (
   pub passed_all : (i : ℕ) → get_or p (commit_at r) 0 ≤ i → Passed c r i → NoneSeen c r
   passed_all i g passed k a b = passed k (omega (arith, commit_held n p l t r h)) a
 
-  pub start : (i : ℕ) → i ≡ get_or t (last_at r) 0 → (m : List ℕ) → length m ≡ marks → ((j : ℕ) → j < i → Marked m (get_or t (seen_at n r j) 0)) → Walked c r i m
+  pub start : (i : ℕ) → i ≡ get_or t (last_at r) 0 → (m : List Bool) → length m ≡ marks → ((j : ℕ) → j < i → Marked m (get_or t (seen_at n r j) 0)) → Walked c r i m
   start i e m size marked =
       record {
         from = omega (arith, last_held n p l t r h);
@@ -61,22 +67,22 @@ module _ (n : ℕ) (p l t : List ℕ) (s : Snapshot n p l) (f : Forward n p t) (
         passed = passed_none i e;
       }
 
-  module _ (i : ℕ) (m : List ℕ) (w : Walked c r i m) (k : i < get_or p (commit_at r) 0) (id : ℕ) (e : id ≡ get_or l (id_at (entry_at r i)) 0) where
+  module _ (i : ℕ) (m : List Bool) (w : Walked c r i m) (k : i < get_or p (commit_at r) 0) (id : ℕ) (e : id ≡ get_or l (id_at (entry_at r i)) 0) where
     -- an id that meets no mark is none of those before it
-    pub unmarked : get_or m (id % marks) 0 ≡ 0 → unseen c r i ≡ true
+    pub unmarked : get_or m (id % marks) false ≡ false → unseen c r i ≡ true
     unfolding unseen
     unmarked z =
         all_of i (λ j. not (eqb (id_of c r j) (entry c r i).id)) (λ j g.
         ap not (ne_eqb (id_of c r j) (entry c r i).id (λ q.
-        w.marked j g (subst (λ (x : ℕ). get_or m (x % marks) 0 ≡ 0) (sym (q ∙ (id_held n p l t s f r i h k ∙ sym e))) z))))
+        false≢true (sym z ∙ (ap (λ (x : ℕ). get_or m (x % marks) false) (sym (q ∙ (id_held n p l t s f r i h k ∙ sym e))) ∙ w.marked j g)))))
 
-    pub on : unseen c r i ≡ true → Walked c r (i + 1) (set m (id % marks) 1)
+    pub on : unseen c r i ≡ true → Walked c r (i + 1) (set m (id % marks) true)
     on u =
         record {
           from = omega (arith, w.from);
-          size = length-set m (id % marks) 1 ∙ w.size;
+          size = length-set m (id % marks) true ∙ w.size;
           marked =
-              below_more (λ j. Marked (set m (id % marks) 1) (id_of c r j)) i (λ j g. mark_kept m id (id_of c r j) w.size (w.marked j g))
-              (subst (Marked (set m (id % marks) 1)) (e ∙ logged n p l t s f r i h k (omega (arith, w.from, last_held n p l t r h))) (mark_set m id w.size));
+              below_more (λ j. Marked (set m (id % marks) true) (id_of c r j)) i (λ j g. mark_kept m id (id_of c r j) w.size (w.marked j g))
+              (subst (Marked (set m (id % marks) true)) (e ∙ logged n p l t s f r i h k (omega (arith, w.from, last_held n p l t r h))) (mark_set m id w.size));
           passed = passed_more i w.passed u;
         }

@@ -1,5 +1,5 @@
 -- What the marks of ids can show: that property 4 holds of all that a plant has newly committed. Assumes nothing.
-use Rattle.std.specs.Prelude.{true, List, ◌≡◌, ℕ, ◌≤◌, ◌<◌, ◌%◌, get_or}
+use Rattle.std.specs.Prelude.{Bool, true, false, List, ◌≡◌, ℕ, ◌≤◌, ◌<◌, ◌%◌, get_or}
 use Rattle.properties_snapshots.specs.Cluster.{Cluster, plant, last}
 use Rattle.properties_duplicates.specs.Duplicates.{unseen}
 
@@ -12,5 +12,5 @@ abbrev pub marks : ℕ
 marks = 256
 
 -- the id's mark is set
-abbrev pub Marked : List ℕ → ℕ → Type 0
-Marked m id = get_or m (id % marks) 0 ≡ 0 → ⊥
+abbrev pub Marked : List Bool → ℕ → Type 0
+Marked m id = get_or m (id % marks) false ≡ true

@@ -2,12 +2,11 @@
 // where one meets a mark are the ids before it looked through. Yes is sure; after no the properties are asked one by one.
 #![tactic(auto)]
 
-ghost use Rattle.std.specs.Prelude.{true, ◌≡◌, ℕ, ◌≤◌, ◌<◌, length, get_or};
-ghost use Rattle.basis.specs.Basis.{most};
-ghost use Rattle.properties_snapshots.specs.Cluster.{cluster_in};
-ghost use Rattle.properties_snapshots.specs.Layout.{log_entries, seen_at, tracker_words};
-ghost use Rattle.properties_snapshots.specs.Shape.{Snapshot, Tracked, Forward};
+ghost use Rattle.std.specs.Prelude.{true, ◌≡◌, ℕ, ◌<◌, ◌%◌, length, get_or};
+ghost use Rattle.properties_snapshots.specs.Snapshots.{cluster_at};
 ghost use Rattle.properties_marks.specs.Marks.{NoneSeen, marks, Marked};
+
+use properties_snapshots::Advance;
 
 // A mark for each id modulo 256.
 const MARKS: usize = 256;
@@ -16,81 +15,66 @@ const MARKS: usize = 256;
 const FEW: usize = 4;
 
 // No plant has newly committed an id that was seen.
-pub fn none_seen(n: usize, plants: &[u64], logs: &[u64], tracker: &[u64]) -> bool
-    requires { Snapshot n plants.now logs.now × Tracked n tracker.now × Forward n plants.now tracker.now }
-    ensures { result ≡ true → (r : ℕ) → r < n → NoneSeen (cluster_in n plants.now logs.now tracker.now) r }
+pub fn none_seen(advance: &Advance<'_>) -> bool
+    ensures { result ≡ true → (r : ℕ) → r < advance.now.snapshot.n → NoneSeen (cluster_at advance.now) r }
 {
-    let mut r: usize = 0;
-    while r < n {
-        if !plant_unseen(n, plants, logs, tracker, r) {
-            return false;
-        }
-        r += 1;
-    }
-    true
+    (0..advance.snapshot.n).all(|r| plant_unseen(advance, r))
 }
 
 // A plant has not.
-fn plant_unseen(n: usize, plants: &[u64], logs: &[u64], tracker: &[u64], r: usize) -> bool
-    requires { Snapshot n plants.now logs.now × Tracked n tracker.now × Forward n plants.now tracker.now × (r < n) }
-    ensures { result ≡ true → NoneSeen (cluster_in n plants.now logs.now tracker.now) r }
+fn plant_unseen(advance: &Advance<'_>, r: usize) -> bool
+    requires { r < advance.now.snapshot.n }
+    ensures { result ≡ true → NoneSeen (cluster_at advance.now) r }
 {
-    let last = properties_snapshots::last_of(tracker, r);
-    if properties_snapshots::commit_of(plants, r) <= last + FEW {
-        return one_by_one(n, plants, logs, tracker, r);
+    if advance.commit_of(r) <= advance.last_of(r) + FEW {
+        one_by_one(advance, r)
+    } else {
+        by_marks(advance, r)
     }
-    by_marks(n, plants, logs, tracker, r)
 }
 
 // Each new id looked for among those before it.
-fn one_by_one(n: usize, plants: &[u64], logs: &[u64], tracker: &[u64], r: usize) -> bool
-    requires { Snapshot n plants.now logs.now × Tracked n tracker.now × Forward n plants.now tracker.now × (r < n) }
-    ensures { result ≡ true → NoneSeen (cluster_in n plants.now logs.now tracker.now) r }
+fn one_by_one(advance: &Advance<'_>, r: usize) -> bool
+    requires { r < advance.now.snapshot.n }
+    ensures { result ≡ true → NoneSeen (cluster_at advance.now) r }
 {
-    let commit = properties_snapshots::commit_of(plants, r);
-    let mut i = properties_snapshots::last_of(tracker, r);
-    while i < commit {
-        if !properties_duplicates::unseen(n, plants, logs, tracker, r, i) {
-            return false;
-        }
-        i += 1;
-    }
-    true
+    (advance.last_of(r)..advance.commit_of(r)).all(|i| properties_duplicates::unseen(advance, r, i))
 }
 
 // Each new id marked, and looked for only where its mark is set already.
-fn by_marks(n: usize, plants: &[u64], logs: &[u64], tracker: &[u64], r: usize) -> bool
-    requires { Snapshot n plants.now logs.now × Tracked n tracker.now × Forward n plants.now tracker.now × (r < n) }
-    ensures { result ≡ true → NoneSeen (cluster_in n plants.now logs.now tracker.now) r }
+fn by_marks(advance: &Advance<'_>, r: usize) -> bool
+    requires { r < advance.now.snapshot.n }
+    ensures { result ≡ true → NoneSeen (cluster_at advance.now) r }
 {
-    let commit = properties_snapshots::commit_of(plants, r);
-    let mut i = properties_snapshots::last_of(tracker, r);
-    let mut seen = marks_of(n, tracker, r, i);
-    while i < commit {
-        let mark = (properties_snapshots::logged_id(logs, r, i) % 256) as usize;
-        if seen[mark] != 0 {
-            if !properties_duplicates::unseen(n, plants, logs, tracker, r, i) {
-                return false;
-            }
+    let snapshot = &advance.snapshot;
+    let last = advance.last_of(r);
+    let at = properties_snapshots::seen_at(snapshot.n, r, 0);
+    let mut seen = marks_of(&advance.tracker[at..at + last]);
+    for i in last..advance.commit_of(r) {
+        let mark = mark_of(snapshot.logged_id(r, i));
+        if seen[mark] && !properties_duplicates::unseen(advance, r, i) {
+            return false;
         }
-        seen[mark] = 1;
-        i += 1;
+        seen[mark] = true;
     }
     true
 }
 
-// The marks of the ids that the tracker has of a plant, so many of them.
-fn marks_of(n: usize, tracker: &[u64], r: usize, count: usize) -> [u8; MARKS]
-    requires { (n ≤ most) × (r < n) × (count ≤ log_entries) × (length tracker.now ≡ tracker_words n) }
+// The marks of the ids that the tracker has of a plant.
+fn marks_of(ids: &[u64]) -> [bool; MARKS]
     ensures whole { length result ≡ marks }
-    ensures marked { (j : ℕ) → j < count → Marked result (get_or tracker.now (seen_at n r j) 0) }
+    ensures marked { (j : ℕ) → j < length ids.now → Marked result (get_or ids.now j 0) }
 {
-    let mut seen = [0u8; MARKS];
-    let mut j: usize = 0;
-    while j < count {
-        let mark = (tracker[properties_snapshots::seen_at(n, r, j)] % 256) as usize;
-        seen[mark] = 1;
-        j += 1;
+    let mut seen = [false; MARKS];
+    for id in ids {
+        seen[mark_of(*id)] = true;
     }
     seen
+}
+
+// Where an id's mark stands.
+fn mark_of(id: u64) -> usize
+    ensures { result ≡ id % marks }
+{
+    (id % 256) as usize
 }

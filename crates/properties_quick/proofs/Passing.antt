@@ -17,12 +17,10 @@ use Rattle.properties_snapshots.proofs.Held.{commit_held, op_held, size_held, la
 use Rattle.properties_snapshots.proofs.Known.{tracker_fits_lem}
 use Rattle.properties_verdicts.proofs.First.{all_pass}
 use Rattle.properties_commits.specs.Commits.{commit_tests, commit_numbers}
-use Rattle.properties_judge.specs.Ticks.{over_entries, judged_entries, tick_judged}
+use Rattle.properties_judge.specs.Ticks.{EntryProperty, PrefixAgreement, NoDuplicates, Durability, over_entries, judged_entries, tick_judged}
 use Rattle.properties_judge.proofs.Laws.{entries_pass}
 use Rattle.properties_quick.specs.Quick.{Still, NothingNew}
-use Rattle.properties_verdicts.specs.declared.Answer.TheVariants.{Pass}
-use Rattle.properties_judge.specs.declared.EntryProperty.{EntryProperty}
-use Rattle.properties_judge.specs.declared.EntryProperty.TheVariants.{PrefixAgreement, NoDuplicates, Durability}
+use Rattle.std.specs.Prelude.{Ok}
 
 module _ (n : ℕ) (p l t : List ℕ) (still : (r : ℕ) → r < n → Still p t r) where
   abbrev c : Cluster
@@ -36,12 +34,12 @@ module _ (n : ℕ) (p l t : List ℕ) (still : (r : ℕ) → r < n → Still p t
       rw (le-leb (get_or p (recovering_at r) 0) 1 (still r h).flag, le-leb (get_or p (size_at r) 0) log_entries (still r h).short)))
 
   -- property 1: each test holds
-  numbers : commit_numbers c ≡ Pass
+  numbers : commit_numbers c ≡ Ok tt
   unfolding commit_numbers commit_tests
   numbers =
       all_pass (λ r. commit_tests r (plant c r).commit (plant c r).op (length (plant c r).log) (last c r)) 0 n (λ r a b. one r (omega arith))
     where
-      one : (r : ℕ) → r < n → commit_tests r (plant c r).commit (plant c r).op (length (plant c r).log) (last c r) ≡ Pass
+      one : (r : ℕ) → r < n → commit_tests r (plant c r).commit (plant c r).op (length (plant c r).log) (last c r) ≡ Ok tt
       one r h =
           rw (
             commit_held n p l t r h,
@@ -54,11 +52,11 @@ module _ (n : ℕ) (p l t : List ℕ) (still : (r : ℕ) → r < n → Still p t
           )
 
   -- the others: no entry is asked
-  entries : (property : EntryProperty) → over_entries property c ≡ Pass
+  entries : (property : EntryProperty) → over_entries property c ≡ Ok tt
   entries property =
       entries_pass property c (λ r i h a b. absurd (omega (arith, (still r h).unmoved, commit_held n p l t r h, last_held n p l t r h)))
 
-  passing : tick_judged c ≡ Pass
+  passing : tick_judged c ≡ Ok tt
   unfolding tick_judged judged_entries
   passing = rw (numbers, entries PrefixAgreement, entries NoDuplicates, entries Durability)
 

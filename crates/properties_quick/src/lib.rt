@@ -10,28 +10,17 @@ ghost use Rattle.properties_quick.specs.Quick.{Still, NothingNew};
 use properties_snapshots::{COUNT, ENTRIES, LENGTH, PLANT};
 
 // The words fit, every property passes, and no commit has moved.
+#[tactic(auto, using(basis::proofs::Laws::between))]
 pub fn nothing_new(n: usize, plants: &[u64], logs: &[u64], tracker: &[u64]) -> bool
     ensures { result ≡ true → NothingNew n plants.now logs.now tracker.now }
 {
-    if !basis::plant_count(n) {
-        return false;
-    }
-    if plants.len() != n * PLANT {
-        return false;
-    }
-    if logs.len() != properties_snapshots::entry_at(n, 0) {
-        return false;
-    }
-    if tracker.len() != properties_snapshots::tracker_words(n) {
-        return false;
-    }
-    if properties_snapshots::number(tracker, COUNT) != n {
-        return false;
-    }
-    if ENTRIES < properties_snapshots::number(tracker, LENGTH) {
-        return false;
-    }
-    all_still(n, plants, tracker)
+    basis::plant_count(n)
+        && plants.len() == n * PLANT
+        && logs.len() == properties_snapshots::entry_at(n, 0)
+        && tracker.len() == properties_snapshots::tracker_words(n)
+        && properties_snapshots::number(tracker, COUNT) == n
+        && properties_snapshots::number(tracker, LENGTH) <= ENTRIES
+        && all_still(n, plants, tracker)
 }
 
 // Every plant's numbers are right and its commit is its last commit.
@@ -39,14 +28,7 @@ fn all_still(n: usize, plants: &[u64], tracker: &[u64]) -> bool
     requires { (n ≤ most) × (length plants.now ≡ n * plant_words) × (length tracker.now ≡ tracker_words n) }
     ensures { result ≡ true → (r : ℕ) → r < n → Still plants.now tracker.now r }
 {
-    let mut r: usize = 0;
-    while r < n {
-        if !still(n, plants, tracker, r) {
-            return false;
-        }
-        r += 1;
-    }
-    true
+    (0..n).all(|r| still(n, plants, tracker, r))
 }
 
 // A plant's.
@@ -56,23 +38,10 @@ fn still(n: usize, plants: &[u64], tracker: &[u64], r: usize) -> bool
 {
     let commit = properties_snapshots::commit_of(plants, r);
     let op = properties_snapshots::op_of(plants, r);
-    if 1 < properties_snapshots::recovering_of(plants, r) {
-        return false;
-    }
-    if commit != properties_snapshots::last_of(tracker, r) {
-        return false;
-    }
-    if properties_snapshots::number(tracker, LENGTH) < commit {
-        return false;
-    }
-    if op != properties_snapshots::size_of(plants, r) {
-        return false;
-    }
-    if op < commit {
-        return false;
-    }
-    if ENTRIES < op {
-        return false;
-    }
-    true
+    properties_snapshots::recovering_of(plants, r) <= 1
+        && commit == properties_snapshots::last_of(tracker, r)
+        && commit <= properties_snapshots::number(tracker, LENGTH)
+        && op == properties_snapshots::size_of(plants, r)
+        && commit <= op
+        && op <= ENTRIES
 }

@@ -6,11 +6,15 @@ use native.Mathlib.Nat.{add-zero}
 use mathlib.Core.Bool.{Bool, true, false, ◌&&◌}
 use mathlib.Core.List.{[], ◌∷◌, ◌++◌}
 use mathlib.Core.Path.{◌≡◌, refl, sym, ap, subst, ◌∙◌}
-use Prim.Native.Nat.{ℕ, zero, suc, ◌+◌, ◌≤◌, ◌<◌, max}
+use Prim.Native.Nat.{ℕ, zero, suc, ◌+◌, ◌-◌, ◌≤◌, ◌<◌, max}
 use lib.ListN.{length, get_or, length-append, get_or-append}
 use lib.Seq.{get_or_at}
+use Rattle.std.specs.Bool.{MatchBool}
+use Rattle.std.specs.List.{list_all, range_with_len, AllWithin}
+use Rattle.std.proofs.lemmas.Bool.{MatchBool-at_true}
+use Rattle.std.proofs.lemmas.List.FromFn.{length-range_with_len, get_or-range_with_len}
 use Rattle.basis.proofs.Laws.{both}
-use Rattle.properties_snapshots.specs.Below.{numbered, all_below, count_below, max_below}
+use Rattle.properties_snapshots.specs.Below.{numbered, all_below, max_below}
 
 pub length-numbered : {A : Type 0} (n : ℕ) (f : ℕ → A) → length (numbered n f) ≡ n
 unfolding numbered
@@ -48,18 +52,6 @@ below_more P n passed this k h =
 yes_side : (x : Bool) → x && true ≡ x
 yes_side true = refl
 yes_side false = refl
-
-pub all_none : (h : ℕ → Bool) → all_below 0 h ≡ true
-unfolding all_below
-all_none h = refl
-
-pub all_more : (n : ℕ) (h : ℕ → Bool) → all_below n h ≡ true → h n ≡ true → all_below (n + 1) h ≡ true
-unfolding all_below
-all_more n h e f = rw (add-one, e, f)
-
-pub all_kept : (n : ℕ) (h : ℕ → Bool) → h n ≡ true → all_below (n + 1) h ≡ all_below n h
-unfolding all_below
-all_kept n h e = rw (add-one, e) (yes_side (all_below n h))
 
 pub all_true : (n : ℕ) (h : ℕ → Bool) → all_below n h ≡ true → (k : ℕ) → k < n → h k ≡ true
 unfolding all_below
@@ -105,18 +97,6 @@ all_split a (suc b) h =
     grouped true y z = refl
     grouped false y z = refl
 
-pub count_none : (h : ℕ → Bool) → count_below 0 h ≡ 0
-unfolding count_below
-count_none h = refl
-
-pub count_in : (n : ℕ) (h : ℕ → Bool) → h n ≡ true → count_below (n + 1) h ≡ count_below n h + 1
-unfolding count_below
-count_in n h e = rw (add-one n, e, add-one)
-
-pub count_out : (n : ℕ) (h : ℕ → Bool) → h n ≡ false → count_below (n + 1) h ≡ count_below n h
-unfolding count_below
-count_out n h e = rw (add-one n, e)
-
 pub max_none : (f : ℕ → ℕ) (z : ℕ) → max_below 0 f z ≡ z
 unfolding max_below
 max_none f z = refl
@@ -160,3 +140,27 @@ max_reached (suc n) f z i l h =
 pub numbered_none : {A : Type 0} (f : ℕ → A) → numbered 0 f ≡ []
 unfolding numbered
 numbered_none f = refl
+
+-- a test of all numbers of a range, as an iterator asks it
+pub all_range_from : (a n : ℕ) (h : ℕ → Bool) → list_all h (range_with_len a n) ≡ all_below n (λ k. h (a + k))
+unfolding all_below
+all_range_from a zero h = refl
+all_range_from a (suc n) h =
+    let g : ℕ → Bool = λ k. h (a + k) in
+    let first : h a ≡ h (a + 0) = ap h (omega arith) in
+    let rest : list_all h (range_with_len (a + 1) n) ≡ all_below n (λ k. g (1 + k)) =
+    all_range_from (a + 1) n h ∙ all_same n (λ k. h (a + 1 + k)) (λ k. g (1 + k)) (λ k l. ap h (omega arith)) in
+    let z : 1 + n ≡ suc n = omega arith in
+    ap (λ (b : Bool). b && list_all h (range_with_len (a + 1) n)) first
+    ∙ (ap (λ (b : Bool). h (a + 0) && b) rest ∙ (sym (all_split 1 n g) ∙ ap (λ (k : ℕ). all_below k g) z))
+
+pub all_range : (n : ℕ) (h : ℕ → Bool) → list_all h (range_with_len 0 n) ≡ all_below n h
+all_range n h = all_range_from 0 n h ∙ all_same n (λ k. h (0 + k)) h (λ k l. ap h (omega arith))
+
+-- what an iterator's test that said yes knows of each number of a range
+pub all_yes : (P : ℕ → Type 0) (No : Type 0) (r : Bool) (a n : ℕ) → MatchBool r (AllWithin P (range_with_len a n) 0 (length (range_with_len a n))) No
+    → r ≡ true → (k : ℕ) → a ≤ k → k < a + n → P k
+all_yes P No r a n h e k l m =
+    let long = length-range_with_len a n in
+    let at : get_or (range_with_len a n) (k - a) 0 ≡ k = omega (arith, get_or-range_with_len a n (k - a) 0 (omega arith)) in
+    subst P at (MatchBool-at_true _ _ e h (k - a) 0 (omega arith) (omega arith))

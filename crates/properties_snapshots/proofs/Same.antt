@@ -1,13 +1,15 @@
 -- Entries that pass the test are equal, and equal ones pass it. Assumes nothing.
 use borrow.Author.Tests.{eqb-true, eq-eqb}
 use native.Mathlib.Nat.{add-zero}
-use mathlib.Core.Bool.{true, ◌&&◌}
+use native.Mathlib.Omega.{arith}
+use mathlib.Core.Bool.{Bool, true, false, ◌&&◌}
 use mathlib.Core.List.{List}
-use mathlib.Core.Path.{◌≡◌, ap}
-use Prim.Native.Nat.{ℕ, ◌+◌, ◌<◌}
+use mathlib.Core.Path.{◌≡◌, refl, ap, ◌∙◌}
+use Prim.Native.Nat.{ℕ, suc, ◌+◌, ◌≤◌, ◌<◌}
 use lib.Dec.{eqb, lit<}
-use lib.ListN.{get_or}
-use Rattle.properties_snapshots.specs.Below.{numbered, all_below}
+use lib.ListN.{length, get_or, take, drop}
+use lib.Pointwise.{pointwise}
+use lib.Seq.{drop-cons}
 use Rattle.properties_snapshots.specs.Cluster.{LogEntry, same_entry, words_of_entry, entry_in}
 use Rattle.properties_snapshots.specs.Layout.{entry_words}
 use Rattle.basis.proofs.Laws.{both}
@@ -43,12 +45,26 @@ same_words w u a b h =
     let body = h 3 (lit< tt) in
     λ i. record { client = client i; request = request i; id = id i; body = body i }
 
--- so two of them are equal if their words are, one by one; and its words are those that stand there
-pub words_compared : (a b : List ℕ) (x y : ℕ)
-    → all_below entry_words (λ m. eqb (get_or a (x + m) 0) (get_or b (y + m) 0)) ≡ same_entry (entry_in a x) (entry_in b y)
-unfolding same_entry all_below
-words_compared a b x y = rw (add-zero, add-zero)
+-- so are the words that are taken there
+pub entry_taken : (w : List ℕ) (a n : ℕ) → n ≡ entry_words → a + entry_words ≤ length w → take n (drop a w) ≡ words_of_entry (entry_in w a)
+entry_taken w a n e h =
+    let one : suc a ≡ a + 1 = omega arith in
+    let two : suc (a + 1) ≡ a + 2 = omega arith in
+    let three : suc (a + 2) ≡ a + 3 = omega arith in
+    ap (λ (k : ℕ). take k (drop a w)) e
+    ∙ rw (drop-cons w a 0 (omega arith), drop-cons w (suc a) 0 (omega arith), drop-cons w (suc (suc a)) 0 (omega arith), drop-cons w (suc (suc (suc a))) 0 (omega arith), one, two, three)
 
-pub entry_words_lem : (w : List ℕ) (a : ℕ) → numbered entry_words (λ m. get_or w (a + m) 0) ≡ words_of_entry (entry_in w a)
-unfolding numbered
-entry_words_lem w a = rw add-zero
+-- and to compare them one by one is to compare the entries
+entries_compared : (a b : LogEntry) → pointwise eqb (words_of_entry a) (words_of_entry b) ≡ same_entry a b
+unfolding same_entry
+entries_compared a b = grouped (eqb a.client b.client) (eqb a.request b.request) (eqb a.id b.id) (eqb a.body b.body)
+  where
+    grouped : (p q r s : Bool) → p && (q && (r && (s && true))) ≡ p && q && r && s
+    grouped false q r s = refl
+    grouped true false r s = refl
+    grouped true true false s = refl
+    grouped true true true false = refl
+    grouped true true true true = refl
+
+pub words_same : (u w : List ℕ) (a b : LogEntry) → u ≡ words_of_entry a → w ≡ words_of_entry b → pointwise eqb u w ≡ same_entry a b
+words_same u w a b e f = rw (e, f) (entries_compared a b)

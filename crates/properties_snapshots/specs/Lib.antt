@@ -4,3 +4,4 @@ pub mod Below
 pub mod Cluster
 pub mod Shape
 pub mod Fits
+pub mod Snapshots

@@ -4,10 +4,16 @@
 
 ghost use Rattle.std.specs.Prelude.{◌≡◌, ◌+◌, ◌*◌, ◌≤◌, ◌<◌, length, get_or};
 ghost use Rattle.basis.specs.Basis.{most};
-ghost use Rattle.properties_snapshots.specs.Cluster.{same_entry, entry_in};
+ghost use Rattle.properties_snapshots.specs.Cluster.{words_of_entry, entry_in};
 ghost use Rattle.properties_snapshots.specs.Fits.{plants_fit, snapshot_fits, lasts_fit, tracker_fits};
 ghost use Rattle.properties_snapshots.specs.Layout.{entry_words, id_at, log_entries, plant_words, recovering_at, commit_at, op_at, size_at, entry_at};
 ghost use Rattle.properties_snapshots.specs.Layout.{last_at, canonical_at, seen_at, tracker_words};
+
+mod advance;
+mod snapshot;
+
+pub use advance::Advance;
+pub use snapshot::Snapshot;
 
 // An entry is client, request, op id and op body. A log, and the tracker's canonical part, have room for 128.
 pub const ENTRY: usize = 4;
@@ -85,6 +91,8 @@ pub fn number(words: &[u64], at: usize) -> usize
 }
 
 // Plant r's words: whether it is recovering (1 if so), its commit number, op number and log length.
+// Kept: one reader with the word's offset as a parameter would be `number` again; these four are its names. They take slices, and
+// not a `Snapshot`, since commit_numbers, committer and needed_copies ask for words of the right number alone (docs/PROMISES.md).
 pub fn recovering_of(plants: &[u64], r: usize) -> usize
     requires { (r ≤ most) × (recovering_at r < length plants.now) }
     ensures { result ≡ get_or plants.now (recovering_at r) 0 }
@@ -113,7 +121,16 @@ pub fn size_of(plants: &[u64], r: usize) -> usize
     number(plants, r * PLANT + SIZE)
 }
 
-// The op id of its entry at index i, and its last commit in the tracker.
+// The entry that stands from a place on, in its words.
+#[tactic(auto, using(crate::proofs::Same::entry_taken))]
+pub fn entry_of(words: &[u64], at: usize) -> &[u64]
+    requires { at + entry_words ≤ length words.now }
+    ensures { result.now ≡ words_of_entry (entry_in words.now at) }
+{
+    &words[at..at + ENTRY]
+}
+
+// The op id of plant r's entry at index i, and its last commit in the tracker.
 pub fn logged_id(logs: &[u64], r: usize, i: usize) -> u64
     requires { (r ≤ most) × (i ≤ log_entries) × (id_at (entry_at r i) < length logs.now) }
     ensures { result ≡ get_or logs.now (id_at (entry_at r i)) 0 }
@@ -131,17 +148,12 @@ pub fn last_of(tracker: &[u64], r: usize) -> usize
 // ---- What must be right about them
 
 // 60: the snapshot's words.
+#[tactic(auto, unfolding(crate::specs::Fits::snapshot_fits))]
 pub fn snapshot_fits(n: usize, plants: &[u64], logs: &[u64]) -> bool
     requires { n ≤ most }
     ensures { result ≡ snapshot_fits n plants.now logs.now }
 {
-    if plants.len() != n * PLANT {
-        return false;
-    }
-    if logs.len() != n * LOG {
-        return false;
-    }
-    plants_fit(n, plants)
+    plants.len() == n * PLANT && logs.len() == n * LOG && plants_fit(n, plants)
 }
 
 // Every recovering word is 0 or 1, and every log has at most 128 entries.
@@ -149,34 +161,19 @@ fn plants_fit(n: usize, plants: &[u64]) -> bool
     requires { (n ≤ most) × (length plants.now ≡ n * plant_words) }
     ensures { result ≡ plants_fit n plants.now }
 {
-    let mut r: usize = 0;
-    while r < n {
-        if 1 < recovering_of(plants, r) {
-            return false;
-        }
-        if ENTRIES < size_of(plants, r) {
-            return false;
-        }
-        r += 1;
-    }
-    true
+    (0..n).all(|r| recovering_of(plants, r) <= 1 && size_of(plants, r) <= ENTRIES)
 }
 
 // 61: the tracker's words.
+#[tactic(auto, unfolding(crate::specs::Fits::tracker_fits))]
 pub fn tracker_fits(n: usize, tracker: &[u64]) -> bool
     requires { n ≤ most }
     ensures { result ≡ tracker_fits n tracker.now }
 {
-    if tracker.len() != tracker_words(n) {
-        return false;
-    }
-    if number(tracker, COUNT) != n {
-        return false;
-    }
-    if ENTRIES < number(tracker, LENGTH) {
-        return false;
-    }
-    lasts_fit(n, tracker)
+    tracker.len() == tracker_words(n)
+        && number(tracker, COUNT) == n
+        && number(tracker, LENGTH) <= ENTRIES
+        && lasts_fit(n, tracker)
 }
 
 // No last commit is over the canonical length.
@@ -185,36 +182,5 @@ fn lasts_fit(n: usize, tracker: &[u64]) -> bool
     ensures { result ≡ lasts_fit n tracker.now }
 {
     let length = number(tracker, LENGTH);
-    let mut r: usize = 0;
-    while r < n {
-        if length < last_of(tracker, r) {
-            return false;
-        }
-        r += 1;
-    }
-    true
-}
-
-// Two entries are equal in every word.
-pub fn same_entry(a: &[u64], x: usize, b: &[u64], y: usize) -> bool
-    requires { (x + entry_words ≤ length a.now) × (y + entry_words ≤ length b.now) }
-    ensures { result ≡ same_entry (entry_in a.now x) (entry_in b.now y) }
-{
-    let mut k: usize = 0;
-    while k < ENTRY {
-        if a[x + k] != b[y + k] {
-            return false;
-        }
-        k += 1;
-    }
-    true
-}
-
-// Two plants' entries at index i are equal.
-pub fn same_logged(logs: &[u64], q: usize, r: usize, i: usize) -> bool
-    requires q_le_most { (q ≤ most) × (r ≤ most) × (i < log_entries) }
-    requires entry_words_in_bounds { (entry_at q i + entry_words ≤ length logs.now) × (entry_at r i + entry_words ≤ length logs.now) }
-    ensures { result ≡ same_entry (entry_in logs.now (entry_at q i)) (entry_in logs.now (entry_at r i)) }
-{
-    same_entry(logs, entry_at(q, i), logs, entry_at(r, i))
+    (0..n).all(|r| last_of(tracker, r) <= length)
 }

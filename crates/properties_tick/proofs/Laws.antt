@@ -23,14 +23,13 @@ use Rattle.properties_durability.specs.Durability.{holds_copy}
 use Rattle.properties_durability.proofs.Quorums.{in_every_quorum}
 use Rattle.properties_remembering.specs.Remembering.{length_after, remembered}
 use Rattle.properties_remembering.proofs.After.{after_length, after_canonical, after_new, after_old, nothing_written}
-use Rattle.properties_tick.specs.Calls.{tick_refusal, tick_answer, tick_words}
-use Rattle.properties_judge.specs.Ticks.{over_entries, judged_entries, tick_judged}
+use Rattle.properties_tick.specs.Calls.{tick_answer, tick_words}
+use Rattle.properties_judge.specs.Ticks.{PrefixAgreement, NoDuplicates, Durability, over_entries, judged_entries, tick_judged}
 use Rattle.properties_judge.proofs.Laws.{entry_passed}
-use Rattle.properties_tick.proofs.Passed.{tick_known}
-use Rattle.properties_verdicts.specs.declared.Answer.TheVariants.{Pass}
-use Rattle.properties_judge.specs.declared.EntryProperty.TheVariants.{PrefixAgreement, NoDuplicates, Durability}
+use Rattle.properties_tick.proofs.Passed.{passed_both, tick_known}
+use Rattle.std.specs.Prelude.{Ok}
 
-module _ (n : ℕ) (p l t : List ℕ) (pass : tick_answer n p l t ≡ Pass) where
+module _ (n : ℕ) (p l t : List ℕ) (pass : tick_answer n p l t ≡ Ok tt) where
   abbrev c : Cluster
   c = cluster_in n p l t
 
@@ -40,18 +39,18 @@ module _ (n : ℕ) (p l t : List ℕ) (pass : tick_answer n p l t ≡ Pass) wher
   written = rw pass
 
   -- each property of entries has passed
-  pub agreement_passed : over_entries PrefixAgreement c ≡ Pass
-  unfolding tick_answer tick_judged judged_entries
+  pub agreement_passed : over_entries PrefixAgreement c ≡ Ok tt
+  unfolding tick_judged judged_entries
   agreement_passed =
       (then_pass (over_entries PrefixAgreement c) (and_then (over_entries NoDuplicates c) (over_entries Durability c))
-      (then_pass (commit_numbers c) (judged_entries c) (then_pass (tick_refusal n p l t) (tick_judged c) pass).1).1).0
+      (then_pass (commit_numbers c) (judged_entries c) (passed_both n p l t pass).1).1).0
 
-  pub durability_passed : over_entries Durability c ≡ Pass
-  unfolding tick_answer tick_judged judged_entries
+  pub durability_passed : over_entries Durability c ≡ Ok tt
+  unfolding tick_judged judged_entries
   durability_passed =
       (then_pass (over_entries NoDuplicates c) (over_entries Durability c)
       (then_pass (over_entries PrefixAgreement c) (and_then (over_entries NoDuplicates c) (over_entries Durability c))
-      (then_pass (commit_numbers c) (judged_entries c) (then_pass (tick_refusal n p l t) (tick_judged c) pass).1).1).1).1
+      (then_pass (commit_numbers c) (judged_entries c) (passed_both n p l t pass).1).1).1).1
 
   -- every plant's entry at each index from its last commit up to its commit is the canonical entry that is remembered
   pub agreed : (r i : ℕ) → r < n → last c r ≤ i → i < (plant c r).commit

@@ -5,7 +5,8 @@
 ghost use Rattle.std.specs.Prelude.{◌≡◌};
 ghost use Rattle.properties_tick.specs.Calls.{tick_answer, tick_words};
 
-use properties_verdicts::{Answer, Refusal};
+use properties_snapshots::Snapshot;
+use properties_verdicts::{Failure, Refusal};
 
 // After a tick: properties 1, 3, 4 and 6, and on a pass the tracker remembers what was newly committed.
 // With nothing newly committed, as in most ticks, one look at the n plants' numbers answers, however long the logs are. The dear
@@ -13,32 +14,22 @@ use properties_verdicts::{Answer, Refusal};
 // numbers; 4 marks 15 * 128 = 1,920 ids, and compares an id with those before it only where marks meet, at most 15 * 128 * 127 / 2 =
 // 121,920 comparisons of a word; and 6 compares the canonical entry at each index with 15 logs, 128 * 15 = 1,920 comparisons of an
 // entry. Where 4 or 6 does not pass so, it is asked again entry by entry, for the place to be told.
-pub fn tick(n: usize, plants: &[u64], logs: &[u64], tracker: &mut [u64]) -> Answer
+#[tactic(auto, using(basis::proofs::Laws::between, properties_snapshots::proofs::Known::tracker_known, crate::proofs::Passed::judged_forward, crate::proofs::Quiet::quiet_answer, crate::proofs::Quiet::quiet_words), unfolding(crate::specs::Calls::tick_answer, crate::specs::Calls::tick_refusal, crate::specs::Calls::tick_words))]
+pub fn tick(n: usize, plants: &[u64], logs: &[u64], tracker: &mut [u64]) -> Result<(), Failure>
     ensures answer { result ≡ tick_answer n plants.now logs.now tracker.old }
     ensures words { tracker.new ≡ tick_words n plants.now logs.now tracker.old }
 {
     if properties_quick::nothing_new(n, plants, logs, tracker) {
-        return Answer::Pass;
+        return Ok(());
     }
-    let answer = tick_answer(n, plants, logs, tracker);
-    if let Answer::Pass = answer {
-        properties_remembering::remember(n, plants, logs, tracker);
-    }
-    answer
-}
-
-// What a tick call answers, with nothing written.
-fn tick_answer(n: usize, plants: &[u64], logs: &[u64], tracker: &[u64]) -> Answer
-    ensures { result ≡ tick_answer n plants.now logs.now tracker.now }
-{
     if !basis::plant_count(n) {
-        return Answer::Refused(Refusal::PlantCount);
+        return Err(Failure::Refused(Refusal::PlantCount));
     }
-    if !properties_snapshots::snapshot_fits(n, plants, logs) {
-        return Answer::Refused(Refusal::BadSnapshot);
-    }
+    let snapshot = Snapshot::new(n, plants, logs).ok_or(Refusal::BadSnapshot)?;
     if !properties_snapshots::tracker_fits(n, tracker) {
-        return Answer::Refused(Refusal::BadTracker);
+        return Err(Failure::Refused(Refusal::BadTracker));
     }
-    properties_judge::judge(n, plants, logs, tracker)
+    properties_judge::judge(&snapshot, tracker)?;
+    properties_remembering::remember(&snapshot, tracker);
+    Ok(())
 }

@@ -1,5 +1,6 @@
 // The cluster properties over lent words, with their answer in four of them: the broken property's number or 0, the plant, the index and
 // the test. A call answers 0, or the number of its refusal; then no lent word is changed, those lent for the answer included.
+// Kept: a refusal is told by its number and an answer in four words, since these are the bodies of C's bellmantle_properties_*.
 #![tactic(auto)]
 
 ghost use Rattle.std.specs.Prelude.{◌≡◌, length};
@@ -9,13 +10,15 @@ ghost use Rattle.properties_end.specs.Calls.{end_answer};
 ghost use Rattle.properties_told.specs.Told.{answer_number, answer_told};
 
 use properties_told::ANSWER_WORDS;
+use properties_verdicts::Failure;
 
 // A fresh tracker.
 pub fn fresh(n: u64, tracker: &mut [u64]) -> u64
     ensures answer { result ≡ answer_number (fresh_answer n (length tracker.old)) }
     ensures tracker { tracker.new ≡ fresh_words n tracker.old }
 {
-    properties_told::number(properties_tracker::fresh(n as usize, tracker))
+    let answer = properties_tracker::fresh(n as usize, tracker);
+    properties_told::number(answer.map_err(Failure::Refused))
 }
 
 // A plant came back without its memory.
@@ -23,7 +26,8 @@ pub fn reboot(n: u64, id: u64, tracker: &mut [u64]) -> u64
     ensures answer { result ≡ answer_number (reboot_answer n id tracker.old) }
     ensures tracker { tracker.new ≡ reboot_words n id tracker.old }
 {
-    properties_told::number(properties_tracker::reboot(n as usize, id as usize, tracker))
+    let answer = properties_tracker::reboot(n as usize, id as usize, tracker);
+    properties_told::number(answer.map_err(Failure::Refused))
 }
 
 // After a tick.

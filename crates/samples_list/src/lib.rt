@@ -1,9 +1,9 @@
-// A sample: a list of calls of the host's boundary with what is expected of each. Here are its numbers and steps, the words that are
-// expected, and what is counted; the crates of the families run the calls.
+// A sample: a list of calls of the host's boundary with what is expected of each. Here are its numbers and steps, the rows of words that the
+// calls are lent, and what is counted; the crates of the families run the calls.
 //
 // A list is a row of numbers, seven bits a byte with the lowest first, the top bit set on all bytes of a number but its last. Each row of
-// words that calls write is kept twice: as the calls leave it, and as it is expected to be. One that they only read is kept once, among the
-// expected words, and a step has to give both sides the same. All rows begin as zeros. A step is
+// words that calls write is kept twice: as the calls leave it, and as it is expected to be. One that they only read is kept once, and a step
+// has to give both sides the same. All rows begin as zeros. A step is
 //
 //   0 side row at count word..  so many words from a place of a row on: expected, and with side 1 lent too
 //   1 side row at count word    the same word so many times
@@ -13,79 +13,118 @@
 // compare/README.md lists the rows and the calls by their numbers.
 #![tactic(auto)]
 
-ghost use Rattle.std.specs.Prelude.{◌+◌, ◌<◌, ◌≤◌, length};
-
-// The sorts of steps.
-pub const WORDS: u64 = 0;
-
-pub const FILL: u64 = 1;
-
-pub const SHIFT: u64 = 2;
-
-pub const CALL: u64 = 3;
-
-// How many numbers a step can have behind its sort.
-pub const NUMBERS: usize = 11;
+ghost use Rattle.std.specs.Prelude.{
+  ◌≡◌,
+  true,
+  false,
+  ℕ,
+  ◌++◌,
+  ◌+◌,
+  ◌%◌,
+  ◌^◌,
+  ◌↔◌,
+  ◌<◌,
+  ◌≤◌,
+  length,
+  take,
+  drop,
+  replicate,
+  IfSome,
+  OnSome,
+};
+ghost use Rattle.samples_list.specs.declared.Change.TheVariants.{Fill, Move};
 
 // ---- The numbers
 
-// A number of the list, and where the next one begins.
+// What is left of a list.
 #[derive(Clone, Copy)]
-pub struct Reading {
-    pub value: u64,
-    pub next: usize,
-    pub good: bool,
+pub struct List<'a> {
+    pub rest: &'a [u8],
 }
 
-fn wide(b: u8) -> u64 {
-    b as u64
-}
-
-// The number at a place. One that the list's end cuts off, or that is no word, is none.
-pub fn number(list: &[u8], at: usize) -> Reading
-    ensures { result.next ≤ length list.now }
-{
-    let mut value: u64 = 0;
-    let mut shift: u32 = 0;
-    let mut i = at;
-    while i < list.len() {
-        let byte = wide(list[i]);
-        if 63 < shift {
-            break;
+impl<'a> List<'a> {
+    // The next number. One that the list's end cuts off, or that is no word, is none.
+    pub fn number(&mut self) -> Option<u64>
+        ensures within { length self.new.rest.now ≤ length self.old.rest.now }
+        ensures read { OnSome result (length self.new.rest.now < length self.old.rest.now) }
+    {
+        let mut value: u64 = 0;
+        for place in 0..10u32 {
+            let (byte, rest) = self.rest.split_first()?;
+            self.rest = rest;
+            let bits = u64::from(*byte);
+            if place == 9 && 1 < bits {
+                return None;
+            }
+            value |= (bits & 127) << (7 * place);
+            if bits < 128 {
+                return Some(value);
+            }
         }
-        if (shift == 63) & (1 < byte) {
-            break;
-        }
-        value = value | ((byte & 127) << shift);
-        i += 1;
-        if byte < 128 {
-            return Reading {
-                value: value,
-                next: i,
-                good: true,
-            };
-        }
-        shift += 7;
+        None
     }
-    Reading {
-        value: 0,
-        next: list.len(),
-        good: false,
+
+    // Whether words go to both sides.
+    fn side(&mut self) -> Option<bool>
+        ensures { length self.new.rest.now ≤ length self.old.rest.now }
+    {
+        match self.number()? {
+            0 => Some(false),
+            1 => Some(true),
+            _ => None,
+        }
     }
 }
 
 // ---- The steps
 
-// A step: its sort, the numbers behind it, and where its words or the next step begin.
+// The most numbers that a call can be told.
+pub const NUMBERS: usize = 9;
+
+// A call: which, the answer that is expected, and the numbers that it is told.
 #[derive(Clone, Copy)]
-pub struct Turn {
-    pub sort: u64,
+pub struct Call {
+    pub which: u64,
+    pub answer: u64,
     pub numbers: [u64; NUMBERS],
-    pub next: usize,
-    pub good: bool,
+}
+
+// What becomes of a row's words.
+#[derive(Clone, Copy)]
+pub enum Change {
+    Words,
+    Fill(u64),
+    Move { from: usize },
+}
+
+// Words of a row, so many from a place on, that change: as they are expected, and where they are lent too.
+#[derive(Clone, Copy)]
+pub struct Edit {
+    pub row: u64,
+    pub at: usize,
+    pub count: usize,
+    pub lent: bool,
+    pub change: Change,
+}
+
+impl Edit {
+    // Where the words end, if a row of so many has them all.
+    pub fn end(self, size: usize) -> Option<usize>
+        ensures { IfSome result (λ end. (end ≡ self.at + self.count) × (end ≤ size)) }
+    {
+        let end = self.at.checked_add(self.count)?;
+        if size < end { None } else { Some(end) }
+    }
+}
+
+#[derive(Clone, Copy)]
+pub enum Step {
+    Edit(Edit),
+    Call(Call),
 }
 
 // How many numbers a call is told.
+// Kept: a list has a call's number as it is in compare/README.md, and a family has a `match` on it: names would say it twice.
 fn told_to(which: u64) -> usize
     ensures { result ≤ 9 }
 {
@@ -102,311 +141,290 @@ fn told_to(which: u64) -> usize
     }
 }
 
-// How many numbers a step has, by its sort and the first of them.
-fn wanted(sort: u64, first: u64) -> usize
-    ensures { result ≤ 11 }
-{
-    match sort {
-        0 | 2 => 4,
-        1 => 5,
-        _ => 2 + told_to(first),
+impl<'a> List<'a> {
+    // Words, which follow in the list.
+    fn words(&mut self) -> Option<Edit>
+        ensures { length self.new.rest.now ≤ length self.old.rest.now }
+    {
+        let lent = self.side()?;
+        let row = self.number()?;
+        let at = self.number()? as usize;
+        let count = self.number()? as usize;
+        Some(Edit {
+            row,
+            at,
+            count,
+            lent,
+            change: Change::Words,
+        })
     }
-}
 
-// The step at a place.
-pub fn step(list: &[u8], at: usize) -> Turn
-    ensures { result.next ≤ length list.now }
-{
-    let sort = number(list, at);
-    let first = number(list, sort.next);
-    let want = wanted(sort.value, first.value);
-    let mut numbers = [0u64; NUMBERS];
-    let mut next = sort.next;
-    let mut good = sort.good;
-    let mut i: usize = 0;
-    while i < want {
-        let one = number(list, next);
-        numbers[i] = one.value;
-        next = one.next;
-        good = good & one.good;
-        i += 1;
+    // A word so many times.
+    fn fill(&mut self) -> Option<Edit>
+        ensures { length self.new.rest.now ≤ length self.old.rest.now }
+    {
+        let edit = self.words()?;
+        let word = self.number()?;
+        Some(Edit {
+            change: Change::Fill(word),
+            ..edit
+        })
     }
-    Turn {
-        sort: sort.value,
-        numbers: numbers,
-        next: next,
-        good: good,
+
+    // Words moved within their row.
+    fn moved(&mut self) -> Option<Edit>
+        ensures { length self.new.rest.now ≤ length self.old.rest.now }
+    {
+        let row = self.number()?;
+        let from = self.number()? as usize;
+        let at = self.number()? as usize;
+        let count = self.number()? as usize;
+        Some(Edit {
+            row,
+            at,
+            count,
+            lent: false,
+            change: Change::Move { from },
+        })
     }
-}
 
-// ---- The words that are expected
-
-// Where a step's words stand: of a row, from a place on, so many; and whether the row has them all.
-#[derive(Clone, Copy)]
-pub struct Span {
-    pub row: u64,
-    pub at: usize,
-    pub count: usize,
-    pub fits: bool,
-}
-
-// No more than there are.
-fn clamp(n: u64, most: usize) -> usize
-    ensures { result ≤ most }
-{
-    if (most as u64) < n {
-        return most;
+    // A call and its numbers.
+    fn call(&mut self) -> Option<Call>
+        ensures { length self.new.rest.now ≤ length self.old.rest.now }
+    {
+        let which = self.number()?;
+        let answer = self.number()?;
+        let mut numbers = [0u64; NUMBERS];
+        self.put(&mut numbers[..told_to(which)])?;
+        Some(Call {
+            which,
+            answer,
+            numbers,
+        })
     }
-    n as usize
-}
 
-// How many elements of a row are lent: no more than it has.
-pub fn lent(count: u64, row: &[u64]) -> usize
-    ensures { result ≤ length row.now }
-{
-    clamp(count, row.len())
-}
-
-// The front of a row that calls only read: so many of the expected words from a place on, and no more than there are.
-pub fn part<'a>(expected: &'a [u64], from: usize, count: u64) -> &'a [u64] {
-    if expected.len() < from {
-        return &expected[..0];
-    }
-    let end = from + clamp(count, expected.len() - from);
-    &expected[from..end]
-}
-
-// The row that a step is about.
-pub fn row_of(step: Turn) -> u64 {
-    if step.sort == SHIFT {
-        return step.numbers[0];
-    }
-    step.numbers[1]
-}
-
-// Whether the side of a step's words is one.
-fn is_sided(step: Turn) -> bool {
-    if step.sort == SHIFT {
-        return true;
-    }
-    step.numbers[0] <= 1
-}
-
-// Where the words go, in a row of so many.
-pub fn span_of(step: Turn, size: usize) -> Span
-    ensures { result.at + result.count ≤ size }
-{
-    let at = clamp(step.numbers[2], size);
-    let count = clamp(step.numbers[3], size - at);
-    Span {
-        row: row_of(step),
-        at: at,
-        count: count,
-        fits: (at as u64 == step.numbers[2]) & (count as u64 == step.numbers[3]) & is_sided(step),
-    }
-}
-
-// Words of the list, put from a place on. Answers where the list goes on, or 0 if it ends within them.
-fn put_words(list: &[u8], from: usize, expected: &mut [u64], at: usize, count: usize) -> usize
-    requires { (from ≤ length list.now) × (at + count ≤ length expected.old) }
-    ensures { result ≤ length list.now }
-{
-    let mut next = from;
-    let mut i: usize = 0;
-    while i < count {
-        let one = number(list, next);
-        if !one.good {
-            return 0;
+    // Numbers of the list, put into words.
+    fn put(&mut self, words: &mut [u64]) -> Option<()>
+        ensures { length self.new.rest.now ≤ length self.old.rest.now }
+    {
+        for word in words {
+            *word = self.number()?;
         }
-        next = one.next;
-        expected[at + i] = one.value;
-        i += 1;
+        Some(())
     }
-    next
-}
 
-// A word put so many times from a place on.
-fn put_word(expected: &mut [u64], at: usize, count: usize, word: u64)
-    requires { at + count ≤ length expected.old }
-{
-    let mut i: usize = 0;
-    while i < count {
-        expected[at + i] = word;
-        i += 1;
-    }
-}
-
-// Words moved down, the first of them first.
-fn move_down(expected: &mut [u64], from: usize, to: usize, count: usize)
-    requires { (from + count ≤ length expected.old) × (to + count ≤ length expected.old) }
-{
-    let mut i: usize = 0;
-    while i < count {
-        let word = expected[from + i];
-        expected[to + i] = word;
-        i += 1;
-    }
-}
-
-// Words moved up, the last of them first.
-fn move_up(expected: &mut [u64], from: usize, to: usize, count: usize)
-    requires { (from + count ≤ length expected.old) × (to + count ≤ length expected.old) }
-{
-    let mut left = count;
-    while 0 < left {
-        left -= 1;
-        let word = expected[from + left];
-        expected[to + left] = word;
-    }
-}
-
-// Does what a step says to the words that are expected: its row has `size` of them from `start` on. Answers where the list goes on, or 0
-// for a step that does not fit its row.
-pub fn edit(list: &[u8], step: Turn, expected: &mut [u64], start: usize, size: usize) -> usize
-    requires { step.next ≤ length list.now }
-    ensures { result ≤ length list.now }
-{
-    let span = span_of(step, size);
-    if !span.fits {
-        return 0;
-    }
-    if expected.len() < size {
-        return 0;
-    }
-    if expected.len() - size < start {
-        return 0;
-    }
-    let at = start + span.at;
-    if step.sort == WORDS {
-        return put_words(list, step.next, expected, at, span.count);
-    }
-    if step.sort == FILL {
-        put_word(expected, at, span.count, step.numbers[4]);
-        return step.next;
-    }
-    if !move_words(expected, start, size, step.numbers[1], at, span.count) {
-        return 0;
-    }
-    step.next
-}
-
-// Moves words within a row, if it has them.
-fn move_words(
-    expected: &mut [u64],
-    start: usize,
-    size: usize,
-    place: u64,
-    to: usize,
-    count: usize,
-) -> bool
-    requires { (start + size ≤ length expected.old) × (to + count ≤ length expected.old) × (count ≤ size) }
-{
-    if ((size - count) as u64) < place {
-        return false;
-    }
-    let from = start + place as usize;
-    if to < from {
-        move_down(expected, from, to, count);
-    } else {
-        move_up(expected, from, to, count);
-    }
-    true
-}
-
-// Whether a step's words go to the lent row too.
-pub fn is_lent(step: Turn) -> bool {
-    if step.sort == SHIFT {
-        return false;
-    }
-    step.numbers[0] == 1
-}
-
-// Expected words put into the row that is lent.
-pub fn carry(expected: &[u64], from: usize, row: &mut [u64], at: usize, count: usize) {
-    let mut source = from;
-    let mut place = at;
-    let mut i: usize = 0;
-    while i < count {
-        if expected.len() <= source {
-            return;
+    // The next step.
+    fn step(&mut self) -> Option<Step>
+        ensures { OnSome result (length self.new.rest.now < length self.old.rest.now) }
+    {
+        match self.number()? {
+            0 => Some(Step::Edit(self.words()?)),
+            1 => Some(Step::Edit(self.fill()?)),
+            2 => Some(Step::Edit(self.moved()?)),
+            3 => Some(Step::Call(self.call()?)),
+            _ => None,
         }
-        if row.len() <= place {
-            return;
-        }
-        let word = expected[source];
-        row[place] = word;
-        source += 1;
-        place += 1;
-        i += 1;
     }
 }
 
-// Whether a row that was lent is as it is expected.
-pub fn agrees(expected: &[u64], from: usize, row: &[u64]) -> bool {
-    let mut source = from;
-    let mut i: usize = 0;
-    while i < row.len() {
-        if expected.len() <= source {
-            return false;
+// ---- The rows
+
+impl Edit {
+    // Changes words of a row, if it has them.
+    pub fn change(self, row: &mut [u64], list: &mut List<'_>) -> Option<()>
+        ensures within { length list.new.rest.now ≤ length list.old.rest.now }
+        ensures has { OnSome result (self.at + self.count ≤ length row.old) }
+        ensures filled { (word : ℕ) → self.change ≡ Fill word → OnSome result (row.new
+            ≡ take self.at row.old ++ (replicate self.count word ++ drop (self.at + self.count) row.old)) }
+        ensures moved { (from : ℕ) → self.change ≡ Move from → OnSome result (row.new
+            ≡ take self.at row.old
+            ++ (take self.count (drop from row.old) ++ drop (self.at + self.count) row.old)) }
+    {
+        let end = self.end(row.len())?;
+        match self.change {
+            Change::Words => list.put(&mut row[self.at..end])?,
+            Change::Fill(word) => row[self.at..end].fill(word),
+            Change::Move { from } => {
+                let last = from.checked_add(self.count)?;
+                if row.len() < last {
+                    return None;
+                }
+                row.copy_within(from..last, self.at);
+            }
         }
-        if row[i] != expected[source] {
-            return false;
-        }
-        source += 1;
-        i += 1;
+        Some(())
     }
-    true
+
+    // The same of a row that calls only read, which a step has to give to both sides.
+    pub fn give(self, row: &mut [u64], list: &mut List<'_>) -> Option<()>
+        ensures within { length list.new.rest.now ≤ length list.old.rest.now }
+        ensures lent { OnSome result (self.lent ≡ true) }
+        ensures has { OnSome result (self.at + self.count ≤ length row.old) }
+        ensures filled { (word : ℕ) → self.change ≡ Fill word → OnSome result (row.new
+            ≡ take self.at row.old ++ (replicate self.count word ++ drop (self.at + self.count) row.old)) }
+    {
+        if !self.lent {
+            return None;
+        }
+        self.change(row, list)
+    }
 }
 
-// ---- Counts
+// A row that calls write: as they leave it, and as it is expected to be.
+#[derive(Drop)]
+pub struct Row<const N: usize> {
+    pub lent: [u64; N],
+    pub expected: [u64; N],
+}
 
-// For each call: how often it was met, how often it differed, each refusal by its number, and what accepted ones came to.
-pub const TIMES: usize = 0;
+impl<const N: usize> Row<N> {
+    pub fn new() -> Row<N>
+        ensures lent { result.lent ≡ replicate N 0 }
+        ensures expected { result.expected ≡ replicate N 0 }
+    {
+        Row {
+            lent: [0; N],
+            expected: [0; N],
+        }
+    }
 
-pub const DIFFERING: usize = 1;
+    // Changes words of the row, if it has them.
+    pub fn edit(&mut self, edit: Edit, list: &mut List<'_>) -> Option<()>
+        ensures within { length list.new.rest.now ≤ length list.old.rest.now }
+        ensures has { OnSome result (edit.at + edit.count ≤ N) }
+        ensures filled { (word : ℕ) → edit.change ≡ Fill word → OnSome result (self.new.expected
+            ≡ take edit.at self.old.expected
+            ++ (replicate edit.count word ++ drop (edit.at + edit.count) self.old.expected)) }
+        ensures kept { edit.lent ≡ false → self.new.lent ≡ self.old.lent }
+        ensures lent { edit.lent ≡ true → OnSome result (self.new.lent
+            ≡ take edit.at self.old.lent
+            ++ (take edit.count (drop edit.at self.new.expected) ++ drop (edit.at + edit.count) self.old.lent)) }
+    {
+        edit.change(&mut self.expected, list)?;
+        if edit.lent {
+            let end = edit.end(N)?;
+            let (lent, expected) = (&mut self.lent[..], &self.expected[..]);
+            lent[edit.at..end].copy_from_slice(&expected[edit.at..end]);
+        }
+        Some(())
+    }
 
-pub const REFUSALS: usize = 2;
+    // Whether the calls left it as it is expected.
+    pub fn agrees(&self) -> bool
+        ensures { result ≡ true ↔ self.now.lent ≡ self.now.expected }
+    {
+        self.lent == self.expected
+    }
+}
 
-pub const OUTCOMES: usize = 64;
+// ---- The counts
 
-pub const EACH: usize = 84;
+pub const REFUSALS: usize = 62;
 
+pub const OUTCOMES: usize = 20;
+
+// How many calls there are.
 pub const CALLS: usize = 23;
 
-pub const COUNTS: usize = EACH * CALLS;
+// What a call came to: whether all was as expected, the number of its refusal, or 0, and the outcome of one that was not refused.
+#[derive(Clone, Copy)]
+pub struct Met {
+    pub same: bool,
+    pub refusal: u64,
+    pub outcome: u64,
+}
 
-// One more at a place. No list is long enough to wrap.
-fn count(counts: &mut [u64], at: usize) {
-    if at < counts.len() {
-        let before = counts[at];
-        counts[at] = std::num::wrapping_add_u64(before, 1);
+// Of a call: how often it was met, how often it differed, each refusal by its number, and what accepted ones came to.
+#[derive(Clone, Copy)]
+pub struct Tally {
+    pub times: u64,
+    pub differing: u64,
+    pub refusals: [u64; REFUSALS],
+    pub outcomes: [u64; OUTCOMES],
+}
+
+impl Tally {
+    pub fn new() -> Tally
+        ensures times { result.times ≡ 0 }
+        ensures differing { result.differing ≡ 0 }
+        ensures refusals { result.refusals ≡ replicate 62 0 }
+        ensures outcomes { result.outcomes ≡ replicate 20 0 }
+    {
+        Tally {
+            times: 0,
+            differing: 0,
+            refusals: [0; REFUSALS],
+            outcomes: [0; OUTCOMES],
+        }
+    }
+
+    // Counts a call. No list is long enough to wrap.
+    pub fn count(&mut self, met: Met)
+        ensures times { self.new.times ≡ (self.old.times + 1) % 2 ^ 64 }
+        ensures same { met.same ≡ true → self.new.differing ≡ self.old.differing }
+        ensures differing { met.same ≡ false → self.new.differing ≡ (self.old.differing + 1) % 2 ^ 64 }
+        ensures accepted { met.refusal ≡ 0 → self.new.refusals ≡ self.old.refusals }
+        ensures refused { 0 < met.refusal → self.new.outcomes ≡ self.old.outcomes }
+    {
+        self.times = self.times.wrapping_add(1);
+        self.differing = self.differing.wrapping_add(u64::from(!met.same));
+        if met.refusal == 0 {
+            one_more(&mut self.outcomes, met.outcome);
+        } else {
+            one_more(&mut self.refusals, met.refusal);
+        }
     }
 }
 
-// Where a call that was refused by a number is counted, or one that was not by its outcome.
-fn place_of(refusal: u64, outcome: u64) -> usize
-    ensures { result < 84 }
+// One more at a place, or at the last one for all behind it.
+fn one_more(counts: &mut [u64], place: u64)
+    requires { 0 < length counts.old }
 {
-    if refusal == 0 {
-        return OUTCOMES + clamp(outcome, EACH - OUTCOMES - 1);
-    }
-    REFUSALS + clamp(refusal, OUTCOMES - REFUSALS - 1)
+    let at = (place as usize).min(counts.len() - 1);
+    counts[at] = counts[at].wrapping_add(1);
 }
 
-// Where a call that differed is counted; one that did not is counted nowhere.
-fn differing(same: bool) -> usize
-    ensures { result ≤ 1932 }
+// ---- The replay
+
+// The calls of a family, and the rows that they are lent.
+pub trait Family {
+    // Does what a step says to the words of a row, if the family has it.
+    fn edit(&mut self, edit: Edit, list: &mut List<'_>) -> Option<()>
+        ensures { length list.new.rest.now ≤ length list.old.rest.now };
+
+    // Runs a call, if the family has it and its rows have what it is lent.
+    fn call(&mut self, call: Call) -> Option<Met>
+        ensures { OnSome result (call.which < 23) };
+}
+
+// Does one step, if it is the family's.
+fn turn<F: Family>(family: &mut F, list: &mut List<'_>, tallies: &mut [Tally; CALLS]) -> Option<()>
+    ensures { OnSome result (length list.new.rest.now < length list.old.rest.now) }
 {
-    if same {
-        return COUNTS;
+    match list.step()? {
+        Step::Edit(edit) => family.edit(edit, list)?,
+        Step::Call(call) => {
+            let met = family.call(call)?;
+            if let Some(tally) = tallies.get_mut(call.which as usize) {
+                tally.count(met);
+            }
+        }
     }
-    1
+    Some(())
 }
 
-// Counts a call: whether it differed, the number of its refusal, or 0, and the outcome of one that was not refused.
-pub fn met(counts: &mut [u64], which: u64, same: bool, refusal: u64, outcome: u64) {
-    let start = clamp(which, CALLS) * EACH;
-    count(counts, start);
-    count(counts, start + differing(same));
-    count(counts, start + place_of(refusal, outcome));
+// Replays a list as long as its steps are the family's. What is left of it.
+pub fn replay<'a, F: Family>(
+    family: &mut F,
+    list: List<'a>,
+    tallies: &mut [Tally; CALLS],
+) -> List<'a>
+    ensures { length result.rest.now ≤ length list.entry.rest.now }
+{
+    let mut reached = list;
+    let mut ahead = list;
+    while turn(family, &mut ahead, tallies).is_some() {
+        reached = ahead;
+    }
+    reached
 }

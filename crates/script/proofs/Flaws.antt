@@ -8,23 +8,16 @@ use Prim.Native.Nat.{ℕ, suc, ◌+◌, ◌/◌, ◌≤◌}
 use native.Mathlib.Omega.{arith}
 use lib.ListN.{length}
 use Rattle.numeral.specs.Reading.{number_of}
-use Rattle.numeral.specs.declared.Why.{Why}
-use Rattle.numeral.specs.declared.Number.{Number}
-use Rattle.numeral.specs.declared.Number.TheVariants.{Value, Bad}
+use Rattle.numeral.specs.declared.Flaw.{Flaw}
+use Rattle.std.specs.Prelude.{Option, Some, None, Result, Ok, Err}
 use Rattle.numeral.proofs.Laws.{place_within}
 use Rattle.script_words.specs.Words.{cut_at, strip, lines_of, line_words}
 use Rattle.script.specs.Faults.{named_by, needs_id}
-use Rattle.script.specs.Lines.{flaw_at, with_number, with_words, with_name, with_tick, of_words, line_says}
-use Rattle.script.specs.Scripts.{refusal_byte, longest, events_of, script_answer}
+use Rattle.script.specs.Lines.{Line, event, faulty, with_number, with_words, with_name, with_tick, of_words, line_says}
+use Rattle.script.specs.Scripts.{refused_at, refusal_byte, longest, events_of, script_answer}
 use Rattle.script.specs.declared.fault.Fault.{Fault}
-use Rattle.script.specs.declared.fault.Named.{Named}
-use Rattle.script.specs.declared.fault.Named.TheVariants.{Is, Unknown}
-use Rattle.script.specs.declared.line.Flaw.{Flaw}
-use Rattle.script.specs.declared.line.Line.{Line}
-use Rattle.script.specs.declared.line.Line.TheVariants.{Event, Faulty}
 use Rattle.script.specs.declared.line.Refusal.{Refusal}
 use Rattle.script.specs.declared.line.Refusal.TheVariants.{TooLong, BadByte, OneWord, BadTick, UnknownFault, MissingId, BadId, NoRoom}
-use Rattle.script.specs.declared.Script.TheVariants.{Refused}
 use Rattle.script.proofs.Most.{spread, spread_lines, words_fit}
 use Rattle.script.proofs.FirstFault.{IsEvent, TextStops, long, stray, fault, text_stops}
 
@@ -38,7 +31,7 @@ pub record BadFirst (ws : List (List ℕ)) (flaw : Flaw) : Type 0 where
   pub name : List ℕ
   pub rest : List (List ℕ)
   pub words : ws ≡ tick ∷ name ∷ rest
-  pub read : number_of tick ≡ Bad flaw.why flaw.byte
+  pub read : number_of tick ≡ Err flaw
 
 -- the third word of some is no number for this reason; the first is one, and the second names a fault that needs an id
 pub record BadThird (ws : List (List ℕ)) (flaw : Flaw) : Type 0 where
@@ -48,52 +41,47 @@ pub record BadThird (ws : List (List ℕ)) (flaw : Flaw) : Type 0 where
   pub rest : List (List ℕ)
   pub words : ws ≡ tick ∷ name ∷ id ∷ rest
   pub now : ℕ
-  pub first : number_of tick ≡ Value now
+  pub first : number_of tick ≡ Ok now
   pub named : Fault
-  pub second : named_by name ≡ Is named
+  pub second : named_by name ≡ Some named
   pub needs : needs_id named ≡ true
-  pub read : number_of id ≡ Bad flaw.why flaw.byte
+  pub read : number_of id ≡ Err flaw
 
 -- ---- one line
 one_way : {A : Type 0} → ◌≡◌ {A = ℕ} 0 1 → A
 one_way e = absurd (omega arith)
 
--- the reason told is the reader's
-the_reason : (w : List ℕ) (why : Why) (byte : ℕ) (flaw : Flaw) → number_of w ≡ Bad why byte → flaw_at why byte ≡ flaw
-    → number_of w ≡ Bad flaw.why flaw.byte
-the_reason w why byte flaw q z = q ∙ ap (λ (x : Flaw). Bad x.why x.byte) z
-
 module _ (tick name : List ℕ) (flaw : Flaw) where
   -- past the tick no refusal is a bad tick
-  no_number : (now : ℕ) (f : Fault) (n : Number) → with_number now f n ≡ Faulty (BadTick flaw) → ⊥
-  no_number now f (Bad why byte) e = one_way (cc)
-  no_number now f (Value id) e = one_way (cc)
+  no_number : (now : ℕ) (f : Fault) (n : Result ℕ Flaw) → with_number now f n ≡ faulty (BadTick flaw) → ⊥
+  no_number now f (Err told) e = one_way (cc)
+  no_number now f (Ok id) e = one_way (cc)
 
-  no_words : (now : ℕ) (f : Fault) (ws : List (List ℕ)) → with_words now f ws ≡ Faulty (BadTick flaw) → ⊥
+  no_words : (now : ℕ) (f : Fault) (ws : List (List ℕ)) → with_words now f ws ≡ faulty (BadTick flaw) → ⊥
   no_words now f [] e = one_way (cc)
   no_words now f (w ∷ ws) e = no_number now f (number_of w) e
 
-  no_fault : (now : ℕ) (f : Fault) (b : Bool) (ws : List (List ℕ)) → cond b (with_words now f ws) (Event now f) ≡ Faulty (BadTick flaw) → ⊥
+  no_fault : (now : ℕ) (f : Fault) (b : Bool) (ws : List (List ℕ)) → cond b (with_words now f ws) (event now f) ≡ faulty (BadTick flaw) → ⊥
   no_fault now f true ws e = no_words now f ws e
   no_fault now f false ws e = one_way (cc)
 
-  no_name : (now : ℕ) (n : Named) (ws : List (List ℕ)) → with_name now n ws ≡ Faulty (BadTick flaw) → ⊥
-  no_name now Unknown ws e = one_way (cc)
-  no_name now (Is f) ws e = no_fault now f (needs_id f) ws e
+  no_name : (now : ℕ) (n : Option Fault) (ws : List (List ℕ)) → with_name now n ws ≡ faulty (BadTick flaw) → ⊥
+  no_name now None ws e = one_way (cc)
+  no_name now (Some f) ws e = no_fault now f (needs_id f) ws e
 
-  by_tick : (n : Number) (ws : List (List ℕ)) → number_of tick ≡ n → with_tick n name ws ≡ Faulty (BadTick flaw)
+  by_tick : (n : Result ℕ Flaw) (ws : List (List ℕ)) → number_of tick ≡ n → with_tick n name ws ≡ faulty (BadTick flaw)
       → BadFirst (tick ∷ name ∷ ws) flaw
-  by_tick (Bad why byte) ws q e =
-      let z : flaw_at why byte ≡ flaw = cc in
-      record { tick = tick; name = name; rest = ws; words = refl; read = the_reason tick why byte flaw q z }
-  by_tick (Value now) ws q e = absurd (no_name now (named_by name) ws e)
+  by_tick (Err told) ws q e =
+      let z : told ≡ flaw = cc in
+      record { tick = tick; name = name; rest = ws; words = refl; read = q ∙ ap (λ (x : Flaw). Err x) z }
+  by_tick (Ok now) ws q e = absurd (no_name now (named_by name) ws e)
 
   -- and a bad id comes of the third word alone
-  module _ (now : ℕ) (first : number_of tick ≡ Value now) where
-    by_number : (f : Fault) → named_by name ≡ Is f → needs_id f ≡ true → (id : List ℕ) (ws : List (List ℕ)) (n : Number) → number_of id ≡ n
-        → with_number now f n ≡ Faulty (BadId flaw) → BadThird (tick ∷ name ∷ id ∷ ws) flaw
-    by_number f s t id ws (Bad why byte) q e =
-        let z : flaw_at why byte ≡ flaw = cc in
+  module _ (now : ℕ) (first : number_of tick ≡ Ok now) where
+    by_number : (f : Fault) → named_by name ≡ Some f → needs_id f ≡ true → (id : List ℕ) (ws : List (List ℕ)) (n : Result ℕ Flaw) → number_of id ≡ n
+        → with_number now f n ≡ faulty (BadId flaw) → BadThird (tick ∷ name ∷ id ∷ ws) flaw
+    by_number f s t id ws (Err told) q e =
+        let z : told ≡ flaw = cc in
         record {
           tick = tick;
           name = name;
@@ -105,34 +93,34 @@ module _ (tick name : List ℕ) (flaw : Flaw) where
           named = f;
           second = s;
           needs = t;
-          read = the_reason id why byte flaw q z;
+          read = q ∙ ap (λ (x : Flaw). Err x) z;
         }
-    by_number f s t id ws (Value i) q e = one_way (cc)
+    by_number f s t id ws (Ok i) q e = one_way (cc)
 
-    by_words : (f : Fault) → named_by name ≡ Is f → (b : Bool) → needs_id f ≡ b → (ws : List (List ℕ))
-        → cond b (with_words now f ws) (Event now f) ≡ Faulty (BadId flaw)
+    by_words : (f : Fault) → named_by name ≡ Some f → (b : Bool) → needs_id f ≡ b → (ws : List (List ℕ))
+        → cond b (with_words now f ws) (event now f) ≡ faulty (BadId flaw)
         → BadThird (tick ∷ name ∷ ws) flaw
     by_words f s true t [] e = one_way (cc)
     by_words f s true t (id ∷ ws) e = by_number f s t id ws (number_of id) refl e
     by_words f s false t ws e = one_way (cc)
 
-    by_name : (n : Named) → named_by name ≡ n → (ws : List (List ℕ)) → with_name now n ws ≡ Faulty (BadId flaw)
+    by_name : (n : Option Fault) → named_by name ≡ n → (ws : List (List ℕ)) → with_name now n ws ≡ faulty (BadId flaw)
         → BadThird (tick ∷ name ∷ ws) flaw
-    by_name Unknown s ws e = one_way (cc)
-    by_name (Is f) s ws e = by_words f s (needs_id f) refl ws e
+    by_name None s ws e = one_way (cc)
+    by_name (Some f) s ws e = by_words f s (needs_id f) refl ws e
 
-  by_first : (n : Number) → number_of tick ≡ n → (ws : List (List ℕ)) → with_tick n name ws ≡ Faulty (BadId flaw)
+  by_first : (n : Result ℕ Flaw) → number_of tick ≡ n → (ws : List (List ℕ)) → with_tick n name ws ≡ faulty (BadId flaw)
       → BadThird (tick ∷ name ∷ ws) flaw
-  by_first (Bad why byte) q ws e = one_way (cc)
-  by_first (Value now) q ws e = by_name now q (named_by name) refl ws e
+  by_first (Err told) q ws e = one_way (cc)
+  by_first (Ok now) q ws e = by_name now q (named_by name) refl ws e
 
-bad_first : (ws : List (List ℕ)) (flaw : Flaw) → of_words ws ≡ Faulty (BadTick flaw) → BadFirst ws flaw
+bad_first : (ws : List (List ℕ)) (flaw : Flaw) → of_words ws ≡ faulty (BadTick flaw) → BadFirst ws flaw
 unfolding of_words
 bad_first [] flaw e = one_way (cc)
 bad_first (tick ∷ []) flaw e = one_way (cc)
 bad_first (tick ∷ name ∷ ws) flaw e = by_tick tick name flaw (number_of tick) ws refl e
 
-bad_third : (ws : List (List ℕ)) (flaw : Flaw) → of_words ws ≡ Faulty (BadId flaw) → BadThird ws flaw
+bad_third : (ws : List (List ℕ)) (flaw : Flaw) → of_words ws ≡ faulty (BadId flaw) → BadThird ws flaw
 unfolding of_words
 bad_third [] flaw e = one_way (cc)
 bad_third (tick ∷ []) flaw e = one_way (cc)
@@ -148,7 +136,7 @@ pub record ToldAt (text : List ℕ) (k : ℕ) (r : Refusal) : Type 0 where
   pub after : List (List ℕ)
   pub split : lines_of text ≡ before ++ line ∷ after
   pub place : k ≡ suc (length before)
-  pub says : line_says line ≡ Faulty r
+  pub says : line_says line ≡ faulty r
 
 -- what is said of a line in the middle is said by a line there
 record From (ls : List (List ℕ)) (n : ℕ) (l : Line) : Type 0 where
@@ -187,7 +175,7 @@ OfWords MissingId = Unit {0}
 OfWords (BadId flaw) = Unit {0}
 OfWords NoRoom = ⊥
 
-told_at : (text : List ℕ) (words : ℕ) (r : Refusal) (k : ℕ) → OfWords r → script_answer text words ≡ Refused r k → ToldAt text k r
+told_at : (text : List ℕ) (words : ℕ) (r : Refusal) (k : ℕ) → OfWords r → script_answer text words ≡ refused_at r k → ToldAt text k r
 told_at text words r k o e = by_stop (text_stops text words r k e) o
   where
     by_stop : {q : Refusal} {n : ℕ} → TextStops text words q n → OfWords q → ToldAt text n q
@@ -195,7 +183,7 @@ told_at text words r k o e = by_stop (text_stops text words r k e) o
     by_stop (stray h f) o = absurd o
     by_stop {q} {n} (fault h f s w) o = by_why s.why
       where
-        by_why : (s.line ≡ Faulty q) ⊎ ((q ≡ NoRoom) × IsEvent s.line × (0 + length (events_of s.before) ≡ words / 3))
+        by_why : (s.line ≡ faulty q) ⊎ ((q ≡ NoRoom) × IsEvent s.line × (0 + length (events_of s.before) ≡ words / 3))
             → ToldAt text n q
         by_why (inl g) =
             let t = said_from (lines_of text) s.before s.line s.after s.split in
@@ -211,7 +199,7 @@ told_at text words r k o e = by_stop (text_stops text words r k e) o
         by_why (inr v) = absurd (subst OfWords v.0 o)
 
 -- a script that is refused for a bad tick is so for the first word of the line told, and what is told of it is what the number reader says
-pub tick_reason : (text : List ℕ) (words : ℕ) (flaw : Flaw) (k : ℕ) → script_answer text words ≡ Refused (BadTick flaw) k
+pub tick_reason : (text : List ℕ) (words : ℕ) (flaw : Flaw) (k : ℕ) → script_answer text words ≡ refused_at (BadTick flaw) k
     → (t : ToldAt text k (BadTick flaw)) × BadFirst (words_in t.line) flaw
 unfolding line_says
 tick_reason text words flaw k e =
@@ -219,7 +207,7 @@ tick_reason text words flaw k e =
     (t, bad_first (words_in t.line) flaw t.says)
 
 -- and for a bad id the third
-pub id_reason : (text : List ℕ) (words : ℕ) (flaw : Flaw) (k : ℕ) → script_answer text words ≡ Refused (BadId flaw) k
+pub id_reason : (text : List ℕ) (words : ℕ) (flaw : Flaw) (k : ℕ) → script_answer text words ≡ refused_at (BadId flaw) k
     → (t : ToldAt text k (BadId flaw)) × BadThird (words_in t.line) flaw
 unfolding line_says
 id_reason text words flaw k e =
@@ -246,7 +234,7 @@ word_long {text} t front w rest e =
       t.short,
     )
 
-pub refusal_byte_lem : (text : List ℕ) (words : ℕ) (r : Refusal) (k : ℕ) → script_answer text words ≡ Refused r k → refusal_byte r ≤ longest
+pub refusal_byte_lem : (text : List ℕ) (words : ℕ) (r : Refusal) (k : ℕ) → script_answer text words ≡ refused_at r k → refusal_byte r ≤ longest
 refusal_byte_lem text words TooLong k e = omega arith
 refusal_byte_lem text words BadByte k e = omega arith
 refusal_byte_lem text words OneWord k e = omega arith

@@ -13,14 +13,11 @@ use lib.Dec.{leb, ltb, eqb}
 use lib.ListN.{length, take, drop, length-drop}
 use lib.Seq.{drop-drop, take_all}
 use Rattle.script_words.specs.Words.{until}
-use Rattle.script.specs.Lines.{line_says}
-use Rattle.script.specs.Scripts.{events_of, lines_judged, judged_line, said}
-use Rattle.script.specs.declared.line.Line.{Line}
-use Rattle.script.specs.declared.line.Line.TheVariants.{Blank, Event, Faulty}
+use Rattle.std.specs.Prelude.{Some, None, Ok, Err}
+use Rattle.script.specs.Lines.{Line, line_says}
+use Rattle.script.specs.Scripts.{refused_at, events_of, lines_judged, judged_line, said}
 use Rattle.script.specs.declared.line.Refusal.{Refusal}
 use Rattle.script.specs.declared.line.Refusal.TheVariants.{NoRoom}
-use Rattle.script.specs.declared.Judged.TheVariants.{Found, Stopped}
-use Rattle.script.specs.declared.Script.TheVariants.{Events, Refused}
 use Rattle.script_words.proofs.Walk.{until_within}
 use Rattle.script_words.proofs.Cutting.{last_line, next_line}
 
@@ -70,36 +67,36 @@ left_step text place e h q = rw q (left_next text place h)
 
 -- ---- judging
 module _ (room n found : ℕ) where
-  pub judged_on : (l : Line) (ls : List Line) (next : ℕ) → judged_line room found l ≡ Found next → lines_judged room n found (l ∷ ls) ≡ lines_judged room (n + 1) next ls
+  pub judged_on : (l : Line) (ls : List Line) (next : ℕ) → judged_line room found l ≡ Ok next → lines_judged room n found (l ∷ ls) ≡ lines_judged room (n + 1) next ls
   unfolding lines_judged
-  judged_on Blank ls next e = let z : found ≡ next = cc in rw (add-one n, z)
-  judged_on (Event t f) ls next e = by_room (ltb found room) e
+  judged_on (Ok None) ls next e = let z : found ≡ next = cc in rw (add-one n, z)
+  judged_on (Ok (Some v)) ls next e = by_room (ltb found room) e
     where
-      by_room : (b : Bool) → cond b (Found (found + 1)) (Stopped NoRoom) ≡ Found next → cond b (lines_judged room (suc n) (suc found) ls) (Refused NoRoom n) ≡ lines_judged room (n + 1) next ls
+      by_room : (b : Bool) → cond b (Ok (found + 1)) (Err NoRoom) ≡ Ok next → cond b (lines_judged room (suc n) (suc found) ls) (refused_at NoRoom n) ≡ lines_judged room (n + 1) next ls
       by_room true q = let z : found + 1 ≡ next = cc in rw (← z, add-one n, add-one found)
-      by_room false q = let z : ◌≡◌ {A = ℕ} 0 1 = cc in absurd (omega arith)
-  judged_on (Faulty r) ls next e = let z : ◌≡◌ {A = ℕ} 0 1 = cc in absurd (omega arith)
+      by_room false q = absurd (cc)
+  judged_on (Err r) ls next e = absurd (cc)
 
-  pub judged_stop : (l : Line) (ls : List Line) (r : Refusal) → judged_line room found l ≡ Stopped r → lines_judged room n found (l ∷ ls) ≡ Refused r n
+  pub judged_stop : (l : Line) (ls : List Line) (r : Refusal) → judged_line room found l ≡ Err r → lines_judged room n found (l ∷ ls) ≡ refused_at r n
   unfolding lines_judged
-  judged_stop Blank ls r e = let z : ◌≡◌ {A = ℕ} 0 1 = cc in absurd (omega arith)
-  judged_stop (Event t f) ls r e = by_room (ltb found room) e
+  judged_stop (Ok None) ls r e = absurd (cc)
+  judged_stop (Ok (Some v)) ls r e = by_room (ltb found room) e
     where
-      by_room : (b : Bool) → cond b (Found (found + 1)) (Stopped NoRoom) ≡ Stopped r → cond b (lines_judged room (suc n) (suc found) ls) (Refused NoRoom n) ≡ Refused r n
-      by_room true q = let z : ◌≡◌ {A = ℕ} 0 1 = cc in absurd (omega arith)
+      by_room : (b : Bool) → cond b (Ok (found + 1)) (Err NoRoom) ≡ Err r → cond b (lines_judged room (suc n) (suc found) ls) (refused_at NoRoom n) ≡ refused_at r n
+      by_room true q = absurd (cc)
       by_room false q = let z : NoRoom ≡ r = cc in rw z
-  judged_stop (Faulty q) ls r e = let z : q ≡ r = cc in rw z
+  judged_stop (Err q) ls r e = let z : q ≡ r = cc in rw z
 
 -- a script that is accepted has as many events as the answer says, and room for them
-pub accepted : (room n found m : ℕ) (ls : List Line) → lines_judged room n found ls ≡ Events m → (m ≡ found + length (events_of ls)) × (found ≤ room → m ≤ room)
+pub accepted : (room n found m : ℕ) (ls : List Line) → lines_judged room n found ls ≡ Ok m → (m ≡ found + length (events_of ls)) × (found ≤ room → m ≤ room)
 unfolding lines_judged events_of
 accepted room n found m [] e = let z : found ≡ m = cc in (omega arith, λ h. omega arith)
-accepted room n found m (Blank ∷ ls) e = accepted room (suc n) found m ls e
-accepted room n found m (Event t f ∷ ls) e = by_room (ltb found room) refl e (accepted room (suc n) (suc found) m ls)
+accepted room n found m (Ok None ∷ ls) e = accepted room (suc n) found m ls e
+accepted room n found m (Ok (Some v) ∷ ls) e = by_room (ltb found room) refl e (accepted room (suc n) (suc found) m ls)
   where
-    by_room : (b : Bool) → ltb found room ≡ b → cond b (lines_judged room (suc n) (suc found) ls) (Refused NoRoom n) ≡ Events m
-        → (lines_judged room (suc n) (suc found) ls ≡ Events m → (m ≡ suc found + length (events_of ls)) × (suc found ≤ room → m ≤ room))
+    by_room : (b : Bool) → ltb found room ≡ b → cond b (lines_judged room (suc n) (suc found) ls) (refused_at NoRoom n) ≡ Ok m
+        → (lines_judged room (suc n) (suc found) ls ≡ Ok m → (m ≡ suc found + length (events_of ls)) × (suc found ≤ room → m ≤ room))
         → (m ≡ found + suc (length (events_of ls))) × (found ≤ room → m ≤ room)
     by_room true b q h = let i = h q in (omega arith, λ k. i.1 (ltb-true found room b))
-    by_room false b q h = let z : ◌≡◌ {A = ℕ} 0 1 = cc in absurd (omega arith)
-accepted room n found m (Faulty r ∷ ls) e = let z : ◌≡◌ {A = ℕ} 0 1 = cc in absurd (omega arith)
+    by_room false b q h = absurd (cc)
+accepted room n found m (Err r ∷ ls) e = absurd (cc)

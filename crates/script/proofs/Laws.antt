@@ -8,8 +8,9 @@ use native.Mathlib.Omega.{arith}
 use borrow.Author.Tests.{ltb-false}
 use lib.Dec.{ltb, eqb}
 use lib.ListN.{length}
+use Rattle.std.specs.Prelude.{Ok}
 use Rattle.numeral.specs.Digits.{is_digit, is_all_digits, value_of}
-use Rattle.numeral.specs.Reading.{unsigned, begins_number, stop_from, stop, number_of}
+use Rattle.numeral.specs.Reading.{unsigned, begins_number, stop_from, stop, flaw_at, number_of}
 use Rattle.numeral.specs.declared.Why.TheVariants.{StrayByte}
 use Rattle.order.specs.Order.{event_words, inserted, sorted, Rising, Permuted, of_tick}
 use Rattle.order.proofs.Laws.{sorted_rising, sorted_permuted, sorted_stable, length-sorted}
@@ -18,12 +19,10 @@ use Rattle.script_words.specs.Words as words
 use Rattle.script_utf8.specs.Utf8.{in_range, after_first, after_this, after_byte, may_end, utf8_from}
 use Rattle.script_stray.specs.Stray.{comment_of, has_over, is_stray, first_stray, stray_line}
 use Rattle.script.specs.Faults.{same, named_by}
-use Rattle.script.specs.Lines.{flaw_at, of_words, line_says}
-use Rattle.script.specs.Scripts.{longest, events_of, lines_judged, said, script_answer, sorted_events, script_words}
+use Rattle.script.specs.Lines.{of_words, line_says}
+use Rattle.script.specs.Scripts.{Script, refused_at, longest, events_of, lines_judged, said, script_answer, sorted_events, script_words}
 use Rattle.script.specs.declared.line.Refusal.{Refusal}
 use Rattle.script.specs.declared.line.Refusal.TheVariants.{TooLong, BadByte, BadTick, BadId}
-use Rattle.script.specs.declared.Script.{Script}
-use Rattle.script.specs.declared.Script.TheVariants.{Events, Refused}
 use Rattle.script.proofs.Judging.{accepted}
 use Rattle.script.proofs.Most.{at_most}
 use Rattle.script.proofs.FirstFault.{TextStops, long, stray, fault, text_stops}
@@ -44,18 +43,18 @@ unfolding sorted_events
 events_stable tick text = sorted_stable tick (events_of (said text))
 
 -- a script that is accepted has as many events as the answer says, and they fit the room lent
-past_tests : (p q : Bool) (a b j : Script) (m : ℕ) → (a ≡ Events m → ⊥) → (b ≡ Events m → ⊥) → cond p a (cond q j b) ≡ Events m → j ≡ Events m
+past_tests : (p q : Bool) (a b j : Script) (m : ℕ) → (a ≡ Ok m → ⊥) → (b ≡ Ok m → ⊥) → cond p a (cond q j b) ≡ Ok m → j ≡ Ok m
 past_tests true q a b j m h k e = absurd (h e)
 past_tests false true a b j m h k e = e
 past_tests false false a b j m h k e = absurd (k e)
 
-no_events : {r : Refusal} {n m : ℕ} → Refused r n ≡ Events m → ⊥
-no_events e = let z : ◌≡◌ {A = ℕ} 0 1 = cc in omega arith
+no_events : {r : Refusal} {n m : ℕ} → ◌≡◌ {A = Script} (refused_at r n) (Ok m) → ⊥
+no_events e = cc
 
-pub events_counted : (text : List ℕ) (words m : ℕ) → script_answer text words ≡ Events m → (m ≡ length (sorted_events text)) × (m ≤ words / 3)
+pub events_counted : (text : List ℕ) (words m : ℕ) → script_answer text words ≡ Ok m → (m ≡ length (sorted_events text)) × (m ≤ words / 3)
 unfolding script_answer sorted_events
 events_counted text words m e =
-    let j = past_tests (ltb longest (length text)) (eqb (stray_line text) 0) (Refused TooLong 0) (Refused BadByte (stray_line text)) (lines_judged (words / 3) 1 0 (said text)) m no_events no_events e in
+    let j = past_tests (ltb longest (length text)) (eqb (stray_line text) 0) (refused_at TooLong 0) (refused_at BadByte (stray_line text)) (lines_judged (words / 3) 1 0 (said text)) m no_events no_events e in
     let a = accepted (words / 3) 1 0 m (said text) j in
     (omega (arith, a.0, length-sorted (events_of (said text))), a.1 (omega arith))
 
@@ -87,7 +86,7 @@ lines_bound (b ∷ bs) = by_byte (eqb b 10) (lines_bound bs)
     by_byte false h = some_line b (lines_of bs) (length bs) h
 
 -- no refusal tells a line past the last that a text can have
-pub refusal_line : (text : List ℕ) (words : ℕ) (r : Refusal) (n : ℕ) → script_answer text words ≡ Refused r n
+pub refusal_line : (text : List ℕ) (words : ℕ) (r : Refusal) (n : ℕ) → script_answer text words ≡ refused_at r n
     → (n ≤ suc (length text)) × (n ≤ suc longest)
 refusal_line text words r n e = by_stop (text_stops text words r n e)
   where
@@ -97,13 +96,13 @@ refusal_line text words r n e = by_stop (text_stops text words r n e)
     by_stop (fault h f s k) = let b = lines_bound text in (omega arith, omega arith)
 
 -- an accepted script has no more events than the longest text can hold
-pub events_most : (text : List ℕ) (words m : ℕ) → script_answer text words ≡ Events m → 9 * m ≤ suc longest
+pub events_most : (text : List ℕ) (words m : ℕ) → script_answer text words ≡ Ok m → 9 * m ≤ suc longest
 unfolding script_answer sorted_events
 events_most text words m e =
     let n = events_counted text words m e in
     omega (arith, n.0, length-sorted (events_of (said text)), at_most text, past_first (ltb longest (length text)) refl _ e)
   where
-    past_first : (p : Bool) → ltb longest (length text) ≡ p → (j : Script) → cond p (Refused TooLong 0) j ≡ Events m → length text ≤ longest
+    past_first : (p : Bool) → ltb longest (length text) ≡ p → (j : Script) → cond p (refused_at TooLong 0) j ≡ Ok m → length text ≤ longest
     past_first true q j f = absurd (no_events f)
     past_first false q j f = ltb-false longest (length text) q
 
@@ -123,9 +122,9 @@ comma_id = 53 ∷ 32 ∷ 99 ∷ 114 ∷ 97 ∷ 115 ∷ 104 ∷ 32 ∷ 49 ∷ 44 
 -- the sample has two events, the crash of plant 1 at tick 5 first, and what was lent behind them stays; a comma is a bad tick or a bad id,
 -- at the second byte
 samples :
-    (script_answer sample 8 ≡ Events 2)
+    (script_answer sample 8 ≡ Ok 2)
     × (script_words sample (9 ∷ 9 ∷ 9 ∷ 9 ∷ 9 ∷ 9 ∷ 9 ∷ 8 ∷ []) ≡ 5 ∷ 0 ∷ 1 ∷ 20 ∷ 5 ∷ 0 ∷ 9 ∷ 8 ∷ [])
-    × (script_answer comma_tick 6 ≡ Refused (BadTick (flaw_at StrayByte 1)) 1)
-    × (script_answer comma_id 6 ≡ Refused (BadId (flaw_at StrayByte 1)) 1)
+    × (script_answer comma_tick 6 ≡ refused_at (BadTick (flaw_at StrayByte 1)) 1)
+    × (script_answer comma_id 6 ≡ refused_at (BadId (flaw_at StrayByte 1)) 1)
 unfolding sample comma_tick comma_id script_words sorted_events sorted inserted event_words events_of script_answer stray_line first_stray is_stray comment_of has_over in_range after_first after_this after_byte may_end utf8_from lines_judged line_says of_words lines_of joined cut_at until strip strip_end kept_before strip_front is_space not_space begins words.line_words named_by same number_of stop stop_from begins_number unsigned is_all_digits is_digit value_of
 samples = (refl, refl, refl, refl)

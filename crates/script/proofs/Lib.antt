@@ -1,6 +1,5 @@
 -- Laws that belong to no one function.
 pub mod Saying
-pub mod Reasons
 pub mod Judging
 pub mod Filling
 pub mod Most
@@ -8,3 +7,4 @@ pub mod Reading
 pub mod Laws
 pub mod FirstFault
 pub mod Flaws
+pub mod Same

@@ -9,19 +9,15 @@ use native.Mathlib.Omega.{arith}
 use lib.Dec.{eqb}
 use lib.ListN.{length, take, length-take, length-append}
 use Rattle.numeral.specs.Reading.{number_of, Says}
-use Rattle.numeral.specs.declared.Number.{Number}
-use Rattle.numeral.specs.declared.Number.TheVariants.{Value, Bad}
+use Rattle.numeral.specs.declared.Flaw.{Flaw}
+use Rattle.std.specs.Prelude.{Option, Some, None, Result, Ok, Err}
 use Rattle.numeral.proofs.Laws.{sound}
 use Rattle.script_words.specs.Words.{is_space, not_space, until, cut_at, joined, lines_of, strip_front, kept_before, strip_end, strip, begins, line_words}
 use Rattle.script.specs.Faults.{needs_id, same, crash, restart, reboot, partition, heal, heal_all, named_by}
-use Rattle.script.specs.Lines.{with_number, with_words, with_name, with_tick, of_words, line_says}
+use Rattle.script.specs.Lines.{Line, event, with_number, with_words, with_name, with_tick, of_words, line_says}
 use Rattle.script.specs.Scripts.{line_events, events_of, said}
 use Rattle.script.specs.declared.fault.Fault.{Fault}
 use Rattle.script.specs.declared.fault.Fault.TheVariants.{Crash, Restart, Reboot, Partition, Heal, HealAll}
-use Rattle.script.specs.declared.fault.Named.{Named}
-use Rattle.script.specs.declared.fault.Named.TheVariants.{Is, Unknown}
-use Rattle.script.specs.declared.line.Line.{Line}
-use Rattle.script.specs.declared.line.Line.TheVariants.{Event}
 
 -- the room that lists take with one byte between any two, and one behind the last
 unfoldable pub spread : List (List ℕ) → ℕ
@@ -51,7 +47,7 @@ record Fitting (l : List ℕ) : Type 0 where
   some : begins l ≡ true → 0 < spread (line_words l)
 
 never : {A : Type 0} → true ≡ false → A
-never e = let z : ◌≡◌ {A = ℕ} 0 1 = cc in absurd (omega arith)
+never e = absurd (cc)
 
 fitting_word : (t : Bool) (b : ℕ) (bs : List ℕ) → begins bs ≡ t → Fitting bs
     → (spread (cond t (joined b (line_words bs)) ((b ∷ []) ∷ line_words bs)) ≤ suc (suc (length bs))) × (0 < spread (cond t (joined b (line_words bs)) ((b ∷ []) ∷ line_words bs)))
@@ -107,7 +103,7 @@ pub words_fit : (l : List ℕ) → spread (line_words (strip (cut_at 35 l))) ≤
 words_fit l = omega (arith, (fitting (strip (cut_at 35 l))).fits, shorter l)
 
 -- ---- the shortest words: a number has a byte, heal has four, heal-all has eight
-number_long : (w : List ℕ) (n : ℕ) → number_of w ≡ Value n → 1 ≤ length w
+number_long : (w : List ℕ) (n : ℕ) → number_of w ≡ Ok n → 1 ≤ length w
 number_long w n e = by_sign (sound w n e)
   where
     by_sign : Says w n → 1 ≤ length w
@@ -128,7 +124,7 @@ same_long (x ∷ xs) (y ∷ ys) e = ap suc (same_long xs ys (second (eqb x y) (s
 abbrev Long : List ℕ → Fault → Type 0
 Long w f = (4 ≤ length w) × (needs_id f ≡ false → 8 ≤ length w)
 
-one_name : (b : Bool) (w : List ℕ) (x f : Fault) (others : Named) → (b ≡ true → Long w x) → (others ≡ Is f → Long w f) → cond b (Is x) others ≡ Is f → Long w f
+one_name : (b : Bool) (w : List ℕ) (x f : Fault) (others : Option Fault) → (b ≡ true → Long w x) → (others ≡ Some f → Long w f) → cond b (Some x) others ≡ Some f → Long w f
 one_name true w x f others p q e = let z : x ≡ f = cc in subst (Long w) z (p refl)
 one_name false w x f others p q e = q e
 
@@ -136,7 +132,7 @@ one_name false w x f others p q e = q e
 by_name : (w name : List ℕ) (x : Fault) → 4 ≤ length name → (needs_id x ≡ false → 8 ≤ length name) → same w name ≡ true → Long w x
 by_name w name x h k e = let l = same_long w name e in (omega arith, λ n. let m = k n in omega arith)
 
-name_long : (w : List ℕ) (f : Fault) → named_by w ≡ Is f → Long w f
+name_long : (w : List ℕ) (f : Fault) → named_by w ≡ Some f → Long w f
 unfolding named_by
 name_long w f =
     one_name (same w crash) w (Crash 0) f _ (by_name w crash (Crash 0) (omega arith) (λ n. never n))
@@ -144,16 +140,16 @@ name_long w f =
     (one_name (same w reboot) w (Reboot 0) f _ (by_name w reboot (Reboot 0) (omega arith) (λ n. never n))
     (one_name (same w partition) w (Partition 0) f _ (by_name w partition (Partition 0) (omega arith) (λ n. never n))
     (one_name (same w heal) w (Heal 0) f _ (by_name w heal (Heal 0) (omega arith) (λ n. never n))
-    (one_name (same w heal_all) w HealAll f Unknown (by_name w heal_all HealAll (omega arith) (λ n. omega arith))
-    (λ n. let z : ◌≡◌ {A = ℕ} 0 1 = cc in absurd (omega arith)))))))
+    (one_name (same w heal_all) w HealAll f None (by_name w heal_all HealAll (omega arith) (λ n. omega arith))
+    (λ n. absurd (cc)))))))
 
 -- ---- so a line with an event has eight bytes
 abbrev Costs : Line → ℕ → Type 0
 Costs l n = 9 * length (line_events l) ≤ n
 
-with_number_lem : (tick : ℕ) (fault : Fault) (w : List ℕ) (n : Number) (k : ℕ) → number_of w ≡ n → (1 ≤ length w → 9 ≤ k) → Costs (with_number tick fault n) k
-with_number_lem tick fault w (Bad why byte) k e h = omega arith
-with_number_lem tick fault w (Value id) k e h = let x = h (number_long w id e) in omega arith
+with_number_lem : (tick : ℕ) (fault : Fault) (w : List ℕ) (n : Result ℕ Flaw) (k : ℕ) → number_of w ≡ n → (1 ≤ length w → 9 ≤ k) → Costs (with_number tick fault n) k
+with_number_lem tick fault w (Err flaw) k e h = omega arith
+with_number_lem tick fault w (Ok id) k e h = let x = h (number_long w id e) in omega arith
 
 with_words_lem : (tick : ℕ) (fault : Fault) (ws : List (List ℕ)) (k : ℕ) → 7 ≤ k → Costs (with_words tick fault ws) (k + spread ws)
 unfolding spread
@@ -161,19 +157,19 @@ with_words_lem tick fault [] k h = omega arith
 with_words_lem tick fault (w ∷ ws) k h = with_number_lem tick fault w (number_of w) (k + spread (w ∷ ws)) refl (λ n. omega arith)
 
 with_fault_lem : (b : Bool) (tick : ℕ) (fault : Fault) (name : List ℕ) (ws : List (List ℕ)) (k : ℕ) → needs_id fault ≡ b → Long name fault → 2 ≤ k
-    → Costs (cond b (with_words tick fault ws) (Event tick fault)) (k + (suc (length name) + spread ws))
+    → Costs (cond b (with_words tick fault ws) (event tick fault)) (k + (suc (length name) + spread ws))
 with_fault_lem true tick fault name ws k e l h =
     let z : k + (suc (length name) + spread ws) ≡ k + suc (length name) + spread ws = omega arith in
     rw z (with_words_lem tick fault ws (k + suc (length name)) (omega (arith, l.0)))
 with_fault_lem false tick fault name ws k e l h = omega (arith, l.1 e)
 
-with_name_lem : (tick : ℕ) (n : Named) (name : List ℕ) (ws : List (List ℕ)) (k : ℕ) → named_by name ≡ n → 2 ≤ k → Costs (with_name tick n ws) (k + (suc (length name) + spread ws))
-with_name_lem tick Unknown name ws k e h = omega arith
-with_name_lem tick (Is fault) name ws k e h = with_fault_lem (needs_id fault) tick fault name ws k refl (name_long name fault e) h
+with_name_lem : (tick : ℕ) (n : Option Fault) (name : List ℕ) (ws : List (List ℕ)) (k : ℕ) → named_by name ≡ n → 2 ≤ k → Costs (with_name tick n ws) (k + (suc (length name) + spread ws))
+with_name_lem tick None name ws k e h = omega arith
+with_name_lem tick (Some fault) name ws k e h = with_fault_lem (needs_id fault) tick fault name ws k refl (name_long name fault e) h
 
-with_tick_lem : (n : Number) (tick name : List ℕ) (ws : List (List ℕ)) → number_of tick ≡ n → Costs (with_tick n name ws) (suc (length tick) + (suc (length name) + spread ws))
-with_tick_lem (Bad why byte) tick name ws e = omega arith
-with_tick_lem (Value t) tick name ws e = with_name_lem t (named_by name) name ws (suc (length tick)) refl (omega (arith, number_long tick t e))
+with_tick_lem : (n : Result ℕ Flaw) (tick name : List ℕ) (ws : List (List ℕ)) → number_of tick ≡ n → Costs (with_tick n name ws) (suc (length tick) + (suc (length name) + spread ws))
+with_tick_lem (Err flaw) tick name ws e = omega arith
+with_tick_lem (Ok t) tick name ws e = with_name_lem t (named_by name) name ws (suc (length tick)) refl (omega (arith, number_long tick t e))
 
 words_cost : (ws : List (List ℕ)) → Costs (of_words ws) (spread ws)
 unfolding of_words spread

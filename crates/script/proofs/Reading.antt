@@ -1,5 +1,4 @@
 -- Reading a text's lines, each once: what one line answers and writes, and what holds between two of them. Assumes nothing.
-use borrow.Author.Tests.{lt-ltb, le-ltb}
 use mathlib.Core.Bool.{Bool, true, false, cond}
 use mathlib.Core.List.{List, [], ◌++◌}
 use mathlib.Core.Path.{◌≡◌, refl, sym, ap, ◌∙◌}
@@ -10,59 +9,33 @@ use lib.ListN.{length, take, drop, length-drop, take-append-drop}
 use Rattle.basis.specs.Basis.{laid}
 use Rattle.order.specs.Order.{event_words}
 use Rattle.script_words.proofs.Walk.{until_in}
-use Rattle.script.specs.Lines.{line_says}
-use Rattle.script.specs.Scripts.{longest, held_words, line_events, events_of, lines_judged, judged_line, said}
-use Rattle.script.specs.declared.fault.Fault.{Fault}
-use Rattle.script.specs.declared.line.Line.{Line}
-use Rattle.script.specs.declared.line.Line.TheVariants.{Blank, Event, Faulty}
+use Rattle.std.specs.Prelude.{Some, None, Result, Ok, Err}
+use Rattle.script.specs.Lines.{Line, blank, line_says}
+use Rattle.script.specs.Scripts.{refused_at, longest, held_words, line_events, events_of, lines_judged, judged_line, said}
 use Rattle.script.specs.declared.line.Refusal.{Refusal}
 use Rattle.script.specs.declared.line.Refusal.TheVariants.{NoRoom}
-use Rattle.script.specs.declared.Judged.{Judged}
-use Rattle.script.specs.declared.Judged.TheVariants.{Found, Stopped}
-use Rattle.script.specs.declared.Script.TheVariants.{Events, Refused}
 use Rattle.script.proofs.Judging.{left, line_end, left_all, left_none, left_step, judged_on, judged_stop}
 use Rattle.script.proofs.Filling.{written, length-written, written_all, next_within, next_left, next_written}
 use Rattle.script.proofs.Most.{at_most}
 
 -- ---- one line
 
--- what a line answers, with the held words as they were and as they are then
-abbrev pub Read : ℕ → ℕ → Line → List ℕ → List ℕ → Judged → Type 0
-Read room found l held held' r = (r ≡ judged_line room found l) × ((next : ℕ) → r ≡ Found next → held' ≡ laid held (3 * found) (event_words (line_events l)))
-
-module _ (room found : ℕ) (held : List ℕ) where
-  pub read_blank : (l : Line) → l ≡ Blank → Read room found l held held (Found found)
-  unfolding event_words
-  read_blank l e =
-      let z : 3 * found + 0 ≡ 3 * found = omega arith in
-      rw e (refl, λ next q. rw (z, take-append-drop (3 * found) held))
-
-  pub read_faulty : (l : Line) (r : Refusal) → l ≡ Faulty r → Read room found l held held (Stopped r)
-  read_faulty l r e = (rw e, λ next q. let z : ◌≡◌ {A = ℕ} 0 1 = cc in absurd (omega arith))
-
-  module _ (tick : ℕ) (fault : Fault) where
-    pub read_event : (held' : List ℕ) (n : ℕ) → found < room → n ≡ found + 1 → held' ≡ laid held (3 * found) (event_words (line_events (Event tick fault)))
-        → Read room found (Event tick fault) held held' (Found n)
-    read_event held' n h m w = rw (lt-ltb found room h, m) (refl, λ next q. w)
-
-    pub read_over : room ≤ found → Read room found (Event tick fault) held held (Stopped NoRoom)
-    read_over h = (rw (le-ltb found room h), λ next q. let z : ◌≡◌ {A = ℕ} 0 1 = cc in absurd (omega arith))
-
-    pub read_as : (l : Line) (held' : List ℕ) (r : Judged) → l ≡ Event tick fault → Read room found (Event tick fault) held held' r → Read room found l held held' r
-    read_as l held' r e h = rw e h
-
-    pub fits_as : (l : Line) → l ≡ Event tick fault → 3 * (found + length (line_events l)) ≤ length held → 3 * (found + 1) ≤ length held
-    fits_as l e h = rw e at h
+-- of a blank line nothing is written
+pub nothing_laid : (found : ℕ) (held : List ℕ) (l : Line) → l ≡ blank → held ≡ laid held (3 * found) (event_words (line_events l))
+unfolding event_words
+nothing_laid found held l e =
+    let z : 3 * found + 0 ≡ 3 * found = omega arith in
+    rw (e, z) (sym (take-append-drop (3 * found) held))
 
 -- a line that does not stop adds its events
-more : (room found next : ℕ) (l : Line) → judged_line room found l ≡ Found next → next ≡ found + length (line_events l)
-more room found next Blank e = let z : found ≡ next = cc in omega arith
-more room found next (Event tick fault) e = by_room (ltb found room) e
+more : (room found next : ℕ) (l : Line) → judged_line room found l ≡ Ok next → next ≡ found + length (line_events l)
+more room found next (Ok None) e = let z : found ≡ next = cc in omega arith
+more room found next (Ok (Some v)) e = by_room (ltb found room) e
   where
-    by_room : (b : Bool) → cond b (Found (found + 1)) (Stopped NoRoom) ≡ Found next → next ≡ found + 1
+    by_room : (b : Bool) → ◌≡◌ {A = Result ℕ Refusal} (cond b (Ok (found + 1)) (Err NoRoom)) (Ok next) → next ≡ found + 1
     by_room true q = let z : found + 1 ≡ next = cc in sym z
-    by_room false q = let z : ◌≡◌ {A = ℕ} 0 1 = cc in absurd (omega arith)
-more room found next (Faulty r) e = let z : ◌≡◌ {A = ℕ} 0 1 = cc in absurd (omega arith)
+    by_room false q = absurd (cc)
+more room found next (Err r) e = absurd (cc)
 
 -- ---- between two lines
 
@@ -131,11 +104,11 @@ module _ {room : ℕ} {text start held : List ℕ} {line found place : ℕ} (r :
     pub roomy : 3 * (found + length (line_events here)) ≤ length held
     roomy = omega (arith, as_long, room_for, enough)
 
-    pub stops : (why : Refusal) → judged_line room found here ≡ Stopped why → Refused why line ≡ lines_judged room 1 0 (said text)
+    pub stops : (why : Refusal) → judged_line room found here ≡ Err why → refused_at why line ≡ lines_judged room 1 0 (said text)
     stops why j =
         sym (r.answer ∙ (ap (lines_judged room line found) (left_step text place e in-text q) ∙ judged_stop room line found here (left text (e + 1)) why j))
 
-    pub goes_on : (held' : List ℕ) (next : ℕ) → judged_line room found here ≡ Found next → held' ≡ laid held (3 * found) (event_words (line_events here))
+    pub goes_on : (held' : List ℕ) (next : ℕ) → judged_line room found here ≡ Ok next → held' ≡ laid held (3 * found) (event_words (line_events here))
         → Reading room text start held' (line + 1) next (e + 1)
     goes_on held' next j w =
         let all = events_of (said text) in
@@ -153,7 +126,7 @@ module _ {room : ℕ} {text start held : List ℕ} {line found place : ℕ} (r :
         }
 
   -- behind the last line
-  pub answers : length text < place → Events found ≡ lines_judged room 1 0 (said text)
+  pub answers : length text < place → Ok found ≡ lines_judged room 1 0 (said text)
   unfolding lines_judged
   answers h = sym (rw (left_none text place h) at r.answer)
 

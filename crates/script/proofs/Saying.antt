@@ -1,66 +1,50 @@
--- What a line says, by its first three words, each of which is empty where it is missing. Assumes nothing.
-use mathlib.Core.Bool.{Bool, true, false}
+-- What a line says, by its first words. Assumes nothing.
+use mathlib.Core.Bool.{true, false}
 use mathlib.Core.List.{List, [], ◌∷◌}
-use mathlib.Core.Path.{◌≡◌, refl, sym, ap, ◌∙◌}
+use mathlib.Core.Path.{◌≡◌}
 use Prim.Native.Nat.{ℕ}
-use native.Mathlib.Omega.{arith}
-use lib.ListN.{length}
+use Rattle.std.specs.Prelude.{Some, None, Ok, Err}
 use Rattle.numeral.specs.Reading.{number_of}
-use Rattle.numeral.specs.declared.Why.{Why}
-use Rattle.numeral.specs.declared.Number.{Number}
-use Rattle.numeral.specs.declared.Number.TheVariants.{Value, Bad}
-use Rattle.script.specs.Faults.{named_by, needs_id}
-use Rattle.script.specs.Lines.{flaw_at, with_number, with_fault, with_tick, of_words, present}
+use Rattle.numeral.specs.declared.Flaw.{Flaw}
+use Rattle.script.specs.Faults.{named_by, needs_id, with_id}
+use Rattle.script.specs.Lines.{blank, event, faulty, with_fault, of_words}
 use Rattle.script.specs.declared.fault.Fault.{Fault}
-use Rattle.script.specs.declared.fault.Named.TheVariants.{Is, Unknown}
-use Rattle.script.specs.declared.line.Line.TheVariants.{Blank, Event, Faulty}
-use Rattle.script.specs.declared.line.Refusal.TheVariants.{OneWord, BadTick, UnknownFault, MissingId}
-use Rattle.script_words.proofs.Cutting.{led}
+use Rattle.script.specs.declared.line.Refusal.TheVariants.{OneWord, BadTick, UnknownFault, MissingId, BadId}
 
 -- ---- the id
 module _ (tick : ℕ) (fault : Fault) where
-  pub no_id_needed : (ws : List (List ℕ)) → needs_id fault ≡ false → Event tick fault ≡ with_fault tick fault ws
+  pub no_id_needed : (ws : List (List ℕ)) → needs_id fault ≡ false → event tick fault ≡ with_fault tick fault ws
   no_id_needed ws e = rw e
 
-  pub id_missing : (w : List ℕ) → needs_id fault ≡ true → length w ≡ 0 → Faulty MissingId ≡ with_fault tick fault (present w)
-  id_missing [] e h = rw e
-  id_missing (b ∷ bs) e h = absurd (omega arith)
+  pub id_missing : (ws : List (List ℕ)) → needs_id fault ≡ true → ws ≡ [] → faulty MissingId ≡ with_fault tick fault ws
+  id_missing ws e q = rw (e, q)
 
-  pub id_read : (w : List ℕ) (n : Number) → needs_id fault ≡ true → (length w ≡ 0 → ⊥) → n ≡ number_of w → with_number tick fault n ≡ with_fault tick fault (present w)
-  id_read [] n e h q = absurd (h refl)
-  id_read (b ∷ bs) n e h q = rw (e, q)
+  pub bad_id : (w : List ℕ) (ws rest : List (List ℕ)) (flaw : Flaw) → needs_id fault ≡ true → ws ≡ w ∷ rest → number_of w ≡ Err flaw
+      → faulty (BadId flaw) ≡ with_fault tick fault ws
+  bad_id w ws rest flaw e q n = rw (e, q, n)
 
-  -- words after the id play no part
-  only_id : (t : Bool) (w : List ℕ) (ws : List (List ℕ)) → needs_id fault ≡ t → with_fault tick fault (present w) ≡ with_fault tick fault (led w ws)
-  only_id t [] ws e = refl
-  only_id t (b ∷ bs) ws e = refl
+  pub id_read : (w : List ℕ) (ws rest : List (List ℕ)) (id : ℕ) → needs_id fault ≡ true → ws ≡ w ∷ rest → number_of w ≡ Ok id
+      → event tick (with_id fault id) ≡ with_fault tick fault ws
+  id_read w ws rest id e q n = rw (e, q, n)
 
 -- ---- the line
-pub blank : (w : List ℕ) (ws : List (List ℕ)) → length w ≡ 0 → Blank ≡ of_words (led w ws)
+pub no_words : (ws : List (List ℕ)) → ws ≡ [] → blank ≡ of_words ws
 unfolding of_words
-blank [] ws h = refl
-blank (b ∷ bs) ws h = absurd (omega arith)
+no_words ws e = rw e
 
-pub one_word_lem : (w v : List ℕ) (ws : List (List ℕ)) → (length w ≡ 0 → ⊥) → length v ≡ 0 → Faulty OneWord ≡ of_words (led w (led v ws))
+pub one_word : (w : List ℕ) (ws rest : List (List ℕ)) → ws ≡ w ∷ rest → rest ≡ [] → faulty OneWord ≡ of_words ws
 unfolding of_words
-one_word_lem [] v ws h k = absurd (h refl)
-one_word_lem (b ∷ bs) [] ws h k = refl
-one_word_lem (b ∷ bs) (x ∷ xs) ws h k = absurd (omega arith)
+one_word w ws rest e f = rw (e, f)
 
-pub two_words : (w v : List ℕ) (ws : List (List ℕ)) → (length w ≡ 0 → ⊥) → (length v ≡ 0 → ⊥) → with_tick (number_of w) v ws ≡ of_words (led w (led v ws))
-unfolding of_words
-two_words [] v ws h k = absurd (h refl)
-two_words (b ∷ bs) [] ws h k = absurd (k refl)
-two_words (b ∷ bs) (x ∷ xs) ws h k = refl
+module _ (w v : List ℕ) (ws rest behind : List (List ℕ)) (first : ws ≡ w ∷ rest) (second : rest ≡ v ∷ behind) where
+  pub bad_tick : (flaw : Flaw) → number_of w ≡ Err flaw → faulty (BadTick flaw) ≡ of_words ws
+  unfolding of_words
+  bad_tick flaw e = rw (first, second, e)
 
-module _ (w v u : List ℕ) (ws : List (List ℕ)) (some : length w ≡ 0 → ⊥) (more : length v ≡ 0 → ⊥) where
-  pub bad_tick : (why : Why) (byte : ℕ) → number_of w ≡ Bad why byte → Faulty (BadTick (flaw_at why byte)) ≡ of_words (led w (led v (led u ws)))
-  bad_tick why byte e = ap (λ (n : Number). with_tick n v (led u ws)) (sym e) ∙ two_words w v (led u ws) some more
+  pub unknown : (tick : ℕ) → number_of w ≡ Ok tick → named_by v ≡ None → faulty UnknownFault ≡ of_words ws
+  unfolding of_words
+  unknown tick e f = rw (first, second, e, f)
 
-  pub unknown : (tick : ℕ) → number_of w ≡ Value tick → named_by v ≡ Unknown → Faulty UnknownFault ≡ of_words (led w (led v (led u ws)))
-  unknown tick e f = rw f at (ap (λ (n : Number). with_tick n v (led u ws)) (sym e) ∙ two_words w v (led u ws) some more)
-
-  pub known : (tick : ℕ) (fault : Fault) → number_of w ≡ Value tick → named_by v ≡ Is fault → with_fault tick fault (present u) ≡ of_words (led w (led v (led u ws)))
-  known tick fault e f =
-      only_id tick fault (needs_id fault) u ws refl
-      ∙ rw f at (ap (λ (n : Number). with_tick n v (led u ws)) (sym e) ∙ two_words w v (led u ws) some more)
+  pub known : (tick : ℕ) (fault : Fault) → number_of w ≡ Ok tick → named_by v ≡ Some fault → with_fault tick fault behind ≡ of_words ws
+  unfolding of_words
+  known tick fault e f = rw (first, second, e, f)

@@ -1,11 +1,9 @@
 -- Faults by their names and numbers (RULES, "Fault scripts"): crash, restart, reboot, partition, heal, each with an id, and heal-all,
 -- numbered 0 to 5 in this order. Names match by exact case. Assumes nothing.
-use Rattle.std.specs.Prelude.{Bool, true, false, cond, ◌&&◌, List, [], ◌∷◌, ℕ, eqb}
+use Rattle.std.specs.Prelude.{Bool, true, false, cond, ◌&&◌, List, [], ◌∷◌, ℕ, eqb, Option, Some, None}
 use Rattle.numeral.specs.Bytes.{bytes}
 use Rattle.script.specs.declared.fault.Fault.{Fault}
 use Rattle.script.specs.declared.fault.Fault.TheVariants.{Crash, Restart, Reboot, Partition, Heal, HealAll}
-use Rattle.script.specs.declared.fault.Named.{Named}
-use Rattle.script.specs.declared.fault.Named.TheVariants.{Is, Unknown}
 
 -- a fault's number, its id (0 for heal-all, which has none), and whether it has one
 abbrev pub fault_number : Fault → ℕ
@@ -68,10 +66,10 @@ abbrev pub heal_all : List ℕ
 heal_all = bytes "heal-all"
 
 -- the fault that a word names, of the plant 0, or that it names none
-unfoldable pub named_by : List ℕ → Named
+unfoldable pub named_by : List ℕ → Option Fault
 named_by w =
-    cond (same w crash) (Is (Crash 0))
-    (cond (same w restart) (Is (Restart 0))
-    (cond (same w reboot) (Is (Reboot 0))
-    (cond (same w partition) (Is (Partition 0))
-    (cond (same w heal) (Is (Heal 0)) (cond (same w heal_all) (Is HealAll) Unknown)))))
+    cond (same w crash) (Some (Crash 0))
+    (cond (same w restart) (Some (Restart 0))
+    (cond (same w reboot) (Some (Reboot 0))
+    (cond (same w partition) (Some (Partition 0))
+    (cond (same w heal) (Some (Heal 0)) (cond (same w heal_all) (Some HealAll) None)))))

@@ -1,8 +1,8 @@
 // A fault injected by hand: what happens to which plant.
 ghost use Rattle.std.specs.Prelude.{◌≡◌};
-ghost use Rattle.script.specs.Faults.{fault_number, fault_id, needs_id, with_id, same, named_by};
+ghost use Rattle.script.specs.Faults.{fault_number, fault_id, needs_id, with_id, named_by};
 
-#[derive(Clone, Copy)]
+#[derive(Clone, Copy, Debug, PartialEq, Eq)]
 pub enum Fault {
     // Crash a plant; it keeps its state, as if paused.
     Crash(u64),
@@ -16,13 +16,6 @@ pub enum Fault {
     Heal(u64),
     // Reconnect every partitioned plant.
     HealAll,
-}
-
-// What a word names.
-#[derive(Clone, Copy)]
-pub enum Named {
-    Is(Fault),
-    Unknown,
 }
 
 impl Fault {
@@ -41,15 +34,16 @@ impl Fault {
     }
 
     // The plant that it names; 0 where it names none.
+    // Kept: an event has a word for its id in the C interface too (bellmantle_parse_script), which is 0 there.
     pub fn id(self) -> u64
         ensures { result ≡ fault_id self }
     {
         match self {
-            Fault::Crash(id) => id,
-            Fault::Restart(id) => id,
-            Fault::Reboot(id) => id,
-            Fault::Partition(id) => id,
-            Fault::Heal(id) => id,
+            Fault::Crash(id)
+            | Fault::Restart(id)
+            | Fault::Reboot(id)
+            | Fault::Partition(id)
+            | Fault::Heal(id) => id,
             Fault::HealAll => 0,
         }
     }
@@ -58,14 +52,7 @@ impl Fault {
     pub fn needs_id(self) -> bool
         ensures { result ≡ needs_id self }
     {
-        match self {
-            Fault::Crash(_) => true,
-            Fault::Restart(_) => true,
-            Fault::Reboot(_) => true,
-            Fault::Partition(_) => true,
-            Fault::Heal(_) => true,
-            Fault::HealAll => false,
-        }
+        !matches!(self, Fault::HealAll)
     }
 
     // The same fault of another plant.
@@ -83,34 +70,28 @@ impl Fault {
     }
 }
 
-// Whether a word is a name, byte for byte.
-fn is(word: &[u8], name: &[u8]) -> bool
-    ensures { result ≡ same word.now name.now }
-{
-    check::same(word, name)
-}
-
 // The fault that a word names, of plant 0 where it needs one.
-pub fn fault_of(word: &[u8]) -> Named
+pub fn fault_of(word: &[u8]) -> Option<Fault>
     ensures { result ≡ named_by word.now }
 {
-    if is(word, b"crash") {
-        return Named::Is(Fault::Crash(0));
+    // Kept: a `match` on the byte strings leaves a goal for each byte that may differ, 48 in all.
+    if word == b"crash".as_slice() {
+        return Some(Fault::Crash(0));
     }
-    if is(word, b"restart") {
-        return Named::Is(Fault::Restart(0));
+    if word == b"restart".as_slice() {
+        return Some(Fault::Restart(0));
     }
-    if is(word, b"reboot") {
-        return Named::Is(Fault::Reboot(0));
+    if word == b"reboot".as_slice() {
+        return Some(Fault::Reboot(0));
     }
-    if is(word, b"partition") {
-        return Named::Is(Fault::Partition(0));
+    if word == b"partition".as_slice() {
+        return Some(Fault::Partition(0));
     }
-    if is(word, b"heal") {
-        return Named::Is(Fault::Heal(0));
+    if word == b"heal".as_slice() {
+        return Some(Fault::Heal(0));
     }
-    if is(word, b"heal-all") {
-        return Named::Is(Fault::HealAll);
+    if word == b"heal-all".as_slice() {
+        return Some(Fault::HealAll);
     }
-    Named::Unknown
+    None
 }

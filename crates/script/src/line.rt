@@ -1,32 +1,16 @@
 // One line of a fault script.
-ghost use Rattle.std.specs.Prelude.{◌≡◌, ℕ};
-ghost use Rattle.numeral.specs.Reading.{why_number};
-ghost use Rattle.script_words.specs.Words.{line_words};
-ghost use Rattle.script.specs.Lines.{flaw_at, line_says, of_words, with_fault, present};
+ghost use Rattle.std.specs.Prelude.{◌≡◌};
+ghost use Rattle.script_words.specs.Words.{line_words, words_from};
+ghost use Rattle.script.specs.Lines.{line_says, of_words, with_fault};
+ghost use Rattle.script.specs.Scripts.{script_refusal, refusal_why, refusal_byte};
 
 use crate::fault;
-use crate::fault::{Fault, Named};
-use numeral::{Number, Why};
-
-// Why a word is no number, and at which place, counting its bytes from 0.
-#[derive(Clone, Copy)]
-pub struct Flaw {
-    pub why: Why,
-    pub byte: usize,
-}
-
-impl Flaw {
-    // The reason's number.
-    pub fn number(self) -> u64
-        ensures { result ≡ why_number self.why }
-    {
-        let why = self.why;
-        numeral::why_number(why)
-    }
-}
+use crate::fault::Fault;
+use numeral::Flaw;
+use script_words::reader::Reader;
 
 // Why a script is refused, in the order in which it is tested.
-#[derive(Clone, Copy)]
+#[derive(Clone, Copy, Debug, PartialEq, Eq)]
 pub enum Refusal {
     // The text is over 65,536 bytes.
     TooLong,
@@ -46,16 +30,54 @@ pub enum Refusal {
     NoRoom,
 }
 
-// What a line says.
-#[derive(Clone, Copy)]
-pub enum Line {
-    Blank,
-    Event(u64, Fault),
-    Faulty(Refusal),
+impl Refusal {
+    // A refusal's number.
+    pub fn number(self) -> u64
+        ensures { result ≡ script_refusal self }
+    {
+        match self {
+            Refusal::TooLong => 1,
+            Refusal::BadByte => 2,
+            Refusal::OneWord => 3,
+            Refusal::BadTick(_) => 4,
+            Refusal::UnknownFault => 5,
+            Refusal::MissingId => 6,
+            Refusal::BadId(_) => 7,
+            Refusal::NoRoom => 8,
+        }
+    }
+
+    // The reason's number for a tick or an id that is no number; 0 for any other refusal.
+    // Kept: bellmantle_parse_script's word has a place for it, and for the byte, which is 0 there (refusal_why, refusal_byte).
+    pub fn why(self) -> u64
+        ensures { result ≡ refusal_why self }
+    {
+        match self {
+            Refusal::BadTick(flaw) | Refusal::BadId(flaw) => flaw.why.number(),
+            _ => 0,
+        }
+    }
+
+    // At which byte of its word that tick or id went bad, counted from 0; 0 for any other refusal.
+    pub fn byte(self) -> usize
+        ensures { result ≡ refusal_byte self }
+    {
+        match self {
+            Refusal::BadTick(flaw) | Refusal::BadId(flaw) => flaw.byte,
+            _ => 0,
+        }
+    }
 }
 
-// What a line of a script says. Its comment begins at the first `#`.
-pub fn parse_line(line: &[u8]) -> Line
+// What is injected, and at which tick.
+#[derive(Clone, Copy, Debug, PartialEq, Eq)]
+pub struct Event {
+    pub tick: u64,
+    pub fault: Fault,
+}
+
+// What a line of a script says: nothing, an event, or why it is refused. Its comment begins at the first `#`.
+pub fn parse_line(line: &[u8]) -> Result<Option<Event>, Refusal>
     ensures { result ≡ line_says line.now }
 {
     let end = script_words::find(line, b'#', 0);
@@ -63,60 +85,34 @@ pub fn parse_line(line: &[u8]) -> Line
 }
 
 // What the words of a line say.
-fn parse_words(line: &[u8]) -> Line
+fn parse_words(line: &[u8]) -> Result<Option<Event>, Refusal>
     ensures { result ≡ of_words (line_words line.now) }
 {
-    let found = script_words::first_words(line);
-    let start = found.tick.start;
-    let end = found.tick.end;
-    let word = &line[start..end];
-    if word.len() == 0 {
-        return Line::Blank;
-    }
-    let name_start = found.name.start;
-    let name_end = found.name.end;
-    let name = &line[name_start..name_end];
-    if name.len() == 0 {
-        return Line::Faulty(Refusal::OneWord);
-    }
-    let read = numeral::read(word);
-    let Number::Value(tick) = read else {
-        return Line::Faulty(Refusal::BadTick(flaw_of(read)));
+    let mut words = Reader::new(line);
+    let Some(word) = words.next() else {
+        return Ok(None);
     };
-    let Named::Is(fault) = fault::fault_of(name) else {
-        return Line::Faulty(Refusal::UnknownFault);
+    let Some(name) = words.next() else {
+        return Err(Refusal::OneWord);
     };
-    let id_start = found.id.start;
-    let id_end = found.id.end;
-    parse_id(tick, fault, &line[id_start..id_end])
+    let tick = numeral::read(word).map_err(Refusal::BadTick)?;
+    let Some(fault) = fault::fault_of(name) else {
+        return Err(Refusal::UnknownFault);
+    };
+    parse_id(tick, fault, words)
 }
 
-// A fault and the word after its name, which is empty where there is none.
-fn parse_id(tick: u64, fault: Fault, word: &[u8]) -> Line
-    ensures { result ≡ with_fault tick fault (present word.now) }
+// A fault with the id that the next word says, where it needs one.
+fn parse_id(tick: u64, fault: Fault, mut words: Reader<'_>) -> Result<Option<Event>, Refusal>
+    ensures { result ≡ with_fault tick fault (words_from words.entry.line.now words.entry.at) }
 {
     if !fault.needs_id() {
-        return Line::Event(tick, fault);
+        return Ok(Some(Event { tick, fault }));
     }
-    if word.len() == 0 {
-        return Line::Faulty(Refusal::MissingId);
-    }
-    let read = numeral::read(word);
-    let Number::Value(id) = read else {
-        return Line::Faulty(Refusal::BadId(flaw_of(read)));
+    let Some(word) = words.next() else {
+        return Err(Refusal::MissingId);
     };
-    Line::Event(tick, fault.with_id(id))
-}
-
-// The reader's reason and place, of a word that was read as no number.
-fn flaw_of(read: Number) -> Flaw
-    ensures { (why : Why) (byte : ℕ) → read ≡ Number.Bad why byte → result ≡ flaw_at why byte }
-{
-    match read {
-        Number::Value(_) => Flaw {
-            why: Why::NoDigit,
-            byte: 0,
-        },
-        Number::Bad(why, byte) => Flaw { why, byte },
-    }
+    let id = numeral::read(word).map_err(Refusal::BadId)?;
+    let fault = fault.with_id(id);
+    Ok(Some(Event { tick, fault }))
 }

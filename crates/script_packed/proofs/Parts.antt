@@ -8,10 +8,10 @@ use Prim.Native.Nat.{ℕ, ◌≤◌, ◌<◌}
 use Rattle.numeral.specs.Reading.{why_number}
 use Rattle.numeral.specs.declared.Why.{Why}
 use Rattle.numeral.specs.declared.Why.TheVariants.{NoDigit, StrayByte, TooLarge}
-use Rattle.script.specs.Scripts.{script_refusal, refusal_why, refusal_byte, script_answer}
+use Rattle.script.specs.Scripts.{refused_at, script_refusal, refusal_why, refusal_byte, script_answer}
 use Rattle.script.specs.declared.line.Refusal.{Refusal}
 use Rattle.script.specs.declared.line.Refusal.TheVariants.{TooLong, BadByte, OneWord, BadTick, UnknownFault, MissingId, BadId, NoRoom}
-use Rattle.script.specs.declared.Script.TheVariants.{Events, Refused}
+use Rattle.std.specs.Prelude.{Ok}
 use Rattle.script.proofs.Laws.{refusal_line, events_most}
 use Rattle.script.proofs.Flaws.{refusal_byte_lem}
 use Rattle.script_packed.specs.Packing.{byte_factor, answer_word, number_in, why_in, byte_in, line_in}
@@ -42,7 +42,7 @@ why_range MissingId = omega arith
 why_range (BadId flaw) = why_few flaw.why
 why_range NoRoom = omega arith
 
-pub below_factor : (text : List ℕ) (words : ℕ) (r : Refusal) (line : ℕ) → script_answer text words ≡ Refused r line
+pub below_factor : (text : List ℕ) (words : ℕ) (r : Refusal) (line : ℕ) → script_answer text words ≡ refused_at r line
     → (refusal_byte r < byte_factor) × (line < byte_factor)
 below_factor text words r line e =
     let b = refusal_byte_lem text words r line e in
@@ -57,8 +57,8 @@ pub record Apart (r : Refusal) (line word : ℕ) : Type 0 where
   pub lines : line_in word ≡ line
 
 -- of a refusal each part is what was put in
-pub refusal_apart : (text : List ℕ) (words : ℕ) (r : Refusal) (line : ℕ) → script_answer text words ≡ Refused r line
-    → Apart r line (answer_word (Refused r line))
+pub refusal_apart : (text : List ℕ) (words : ℕ) (r : Refusal) (line : ℕ) → script_answer text words ≡ refused_at r line
+    → Apart r line (answer_word (refused_at r line))
 refusal_apart text words r line e =
     let n = number_range r in
     let y = why_range r in
@@ -71,5 +71,5 @@ refusal_apart text words r line e =
     }
 
 -- of an accepted script the number is 0
-pub count_apart : (text : List ℕ) (words n : ℕ) → script_answer text words ≡ Events n → number_in (answer_word (Events n)) ≡ 0
+pub count_apart : (text : List ℕ) (words n : ℕ) → script_answer text words ≡ Ok n → number_in (answer_word (Ok n)) ≡ 0
 count_apart text words n e = let m = events_most text words n e in omega arith

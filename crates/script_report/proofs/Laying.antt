@@ -26,16 +26,8 @@ laid-laid out place a b h =
     ∙ (drop-drop (length b) (place + length a) out ∙ ap (λ (x : ℕ). drop x out) z)) in
     rw (t, e) (append_assoc (take place out) a (b ++ drop (place + length (a ++ b)) out) ∙ ap (λ (x : List ℕ). take place out ++ x) (sym (append_assoc a b (drop (place + length (a ++ b)) out))))
 
--- two pieces that were laid one after the other, and three
+-- two pieces that were laid one after the other
 module _ (out : List ℕ) (at : ℕ) (a b : List ℕ) (fits : at + length a ≤ length out) where
   pub laid_two : (p q : ℕ) (o u : List ℕ) → p ≡ at + length a → o ≡ laid out at a → q ≡ p + length b → u ≡ laid o p b
       → (q ≡ at + length (a ++ b)) × (u ≡ laid out at (a ++ b))
   laid_two p q o u e f g h = (omega (arith, length-append a b), h ∙ (ap (λ (x : ℕ). laid o x b) e ∙ (ap (λ (x : List ℕ). laid x (at + length a) b) f ∙ laid-laid out at a b fits)))
-
-pub laid_three : (out : List ℕ) (at : ℕ) (a b d : List ℕ) → at + length a + length b ≤ length out
-    → (p q r : ℕ) (o u v : List ℕ) → p ≡ at + length a → o ≡ laid out at a → q ≡ p + length b → u ≡ laid o p b → r ≡ q + length d → v ≡ laid u q d
-    → (r ≡ at + length (a ++ (b ++ d))) × (v ≡ laid out at (a ++ (b ++ d)))
-laid_three out at a b d h p q r o u v e f g i j k =
-    let n : length o ≡ length out = ap length f ∙ length-laid out at a (omega arith) in
-    let t = laid_two o p b d (omega arith) q r u v g i j k in
-    laid_two out at a (b ++ d) (omega arith) p r o v e f t.0 t.1

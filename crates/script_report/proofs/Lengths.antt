@@ -28,6 +28,9 @@ decimal_most n = omega (arith, length-last_digits (digit_count 19 n) n, count_mo
 pub number_line_lem : (key : List ℕ) (n : ℕ) → length (number_line key n) ≡ length key + length (decimal n) + 1
 number_line_lem key n = omega (arith, length-append key (decimal n ++ 10 ∷ []), length-append (decimal n) (10 ∷ []))
 
+pub line_most : (key : List ℕ) (n : ℕ) → length (number_line key n) ≤ length key + 21
+line_most key n = omega (arith, number_line_lem key n, decimal_most n)
+
 one_of : (b : Bool) (x y : List ℕ) → length x ≤ 9 → length y ≤ 9 → length (cond b x y) ≤ 9
 one_of true x y h k = h
 one_of false x y h k = k

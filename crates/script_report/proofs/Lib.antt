@@ -4,3 +4,4 @@ pub mod Lengths
 pub mod Listing
 pub mod Within
 pub mod Names
+pub mod Pages

@@ -5,7 +5,7 @@ use Prim.Native.Nat.{ℕ, zero, suc, ◌+◌, ◌*◌, ◌≤◌, ◌<◌}
 use native.Mathlib.Numerals.{add-one}
 use native.Mathlib.Omega.{arith}
 use lib.ListN.{length, take, get_or}
-use lib.Seq.{get_or-take, length-take-le, take_all}
+use lib.Seq.{take_all}
 use Rattle.order.specs.Order.{Event, event_words, events_in}
 use Rattle.order.specs.Merge.{Whole}
 use Rattle.order.proofs.Halves.{whole_of}
@@ -34,31 +34,21 @@ unfolding events_text
 text_append [] ys = refl
 text_append (x ∷ xs) ys = rw (text_append xs ys) (sym (append_assoc (event_text x) (events_text xs) (events_text ys)))
 
--- the first `count` events of some words
-module _ (words : List ℕ) (count : ℕ) (fits : 3 * count ≤ length words) where
-  abbrev pub events : List Event
-  events = events_in (take (3 * count) words)
-
-  pub length-events : length events ≡ count
+-- words that are so many events
+module _ (words : List ℕ) (count : ℕ) (whole : length words ≡ 3 * count) where
+  pub length-events : length (events_in words) ≡ count
   unfolding Whole
   length-events =
-      let l : length (take (3 * count) words) ≡ 3 * count = length-take-le (3 * count) words fits in
-      let w : event_words events ≡ take (3 * count) words = whole_of count (take (3 * count) words) l in
-      omega (arith, length_words_of events, ap length w)
+      let w : event_words (events_in words) ≡ words = whole_of count words whole in
+      omega (arith, length_words_of (events_in words), ap length w)
 
-  pub text_more : (i : ℕ) → i < count → events_text (take (i + 1) events) ≡ events_text (take i events) ++ event_text (event_at words i)
+  pub text_more : (i : ℕ) → i < count
+      → events_text (take (i + 1) (events_in words)) ≡ events_text (take i (events_in words)) ++ event_text (event_at words i)
   unfolding events_text
   text_more i h =
-      let ws = take (3 * count) words in
-      let l : length ws ≡ 3 * count = length-take-le (3 * count) words fits in
-      let e : event_at ws i ≡ event_at words i =
-      λ j. record {
-        tick = get_or-take (3 * count) words (3 * i) 0 (omega arith) j;
-        fault = get_or-take (3 * count) words (3 * i + 1) 0 (omega arith) j;
-        id = get_or-take (3 * count) words (3 * i + 2) 0 (omega arith) j;
-      } in
-      rw (add-one i, front_more i ws (omega arith), e)
-      (text_append (take i events) (event_at words i ∷ []) ∙ ap (λ (x : List ℕ). events_text (take i events) ++ x) (append-nil (event_text (event_at words i))))
+      let es = events_in words in
+      rw (add-one i, front_more i words (omega arith))
+      (text_append (take i es) (event_at words i ∷ []) ∙ ap (λ (x : List ℕ). events_text (take i es) ++ x) (append-nil (event_text (event_at words i))))
 
-  pub text_all : (i : ℕ) → count ≤ i → events_text (take i events) ≡ events_text events
-  text_all i h = ap events_text (take_all i events (omega (arith, length-events)))
+  pub text_all : (i : ℕ) → count ≤ i → events_text (take i (events_in words)) ≡ events_text (events_in words)
+  text_all i h = ap events_text (take_all i (events_in words) (omega (arith, length-events)))

@@ -8,13 +8,13 @@ use Rattle.script.specs.Faults.{fault_number, with_id, same, named_by}
 use Rattle.script.specs.Scripts.{script_refusal}
 use Rattle.script.specs.declared.fault.Fault.{Fault}
 use Rattle.script.specs.declared.fault.Fault.TheVariants.{Crash, Restart, Reboot, Partition, Heal, HealAll}
-use Rattle.script.specs.declared.fault.Named.TheVariants.{Is}
-use Rattle.script.specs.declared.line.Flaw.{Flaw}
+use Rattle.std.specs.Prelude.{Some}
+use Rattle.numeral.specs.declared.Flaw.{Flaw}
 use Rattle.script.specs.declared.line.Refusal.TheVariants.{TooLong, BadByte, OneWord, BadTick, UnknownFault, MissingId, BadId, NoRoom}
 use Rattle.script_report.specs.Report.{name_of}
 
 -- the name that is written for a fault is read as that fault, of plant 0 where it has one
-pub name_reads_back : (f : Fault) → named_by (name_of (fault_number f)) ≡ Is (with_id f 0)
+pub name_reads_back : (f : Fault) → named_by (name_of (fault_number f)) ≡ Some (with_id f 0)
 unfolding named_by name_of same
 name_reads_back (Crash i) = refl
 name_reads_back (Restart i) = refl

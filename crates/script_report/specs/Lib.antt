@@ -1,2 +1,3 @@
 -- The definitions that the crate's contracts cite.
 pub mod Report
+pub mod Pages

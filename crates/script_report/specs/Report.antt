@@ -1,20 +1,16 @@
 -- What the program `faults` writes (RULES, "Fault scripts"): for a script that is accepted a line `events=`, then for each event a line
 -- `tick=`, a line `fault=` and, unless it is heal-all, a line `id=`; for a refusal a line `refusal=` and a line `line=` and, for a tick or
 -- an id that is no number, a line `why=` and a line `byte=`. Each ends with a line feed. Assumes nothing.
-use Rattle.std.specs.Prelude.{cond, List, [], ◌∷◌, ◌++◌, ℕ, ◌+◌, ◌*◌, leb, eqb, length, drop}
+use Rattle.std.specs.Prelude.{cond, List, [], ◌∷◌, ◌++◌, ℕ, ◌+◌, ◌*◌, leb, eqb, length, drop, Option, Some, None, Ok, Err}
 use Rattle.numeral.specs.Bytes.{bytes}
 use Rattle.numeral.specs.Reading.{why_number}
 use Rattle.numeral.specs.Writing.{decimal}
 use Rattle.order.specs.Order.{Event}
 use Rattle.script.specs.Faults.{crash, restart, reboot, partition, heal, heal_all}
-use Rattle.script.specs.Scripts.{script_refusal, script_answer, sorted_events}
-use Rattle.script.specs.declared.line.Flaw.{Flaw}
+use Rattle.numeral.specs.declared.Flaw.{Flaw}
+use Rattle.script.specs.Scripts.{Script, script_refusal, script_answer, sorted_events}
 use Rattle.script.specs.declared.line.Refusal.{Refusal}
 use Rattle.script.specs.declared.line.Refusal.TheVariants.{TooLong, BadByte, OneWord, BadTick, UnknownFault, MissingId, BadId, NoRoom}
-use Rattle.script.specs.declared.Script.{Script}
-use Rattle.script.specs.declared.Script.TheVariants.{Events, Refused}
-use Rattle.script_report.specs.declared.Reported.{Reported}
-use Rattle.script_report.specs.declared.Reported.TheVariants.{Written, NoRoom}
 
 -- a key and its number on a line
 abbrev pub number_line : List ℕ → ℕ → List ℕ
@@ -88,8 +84,8 @@ refusal_text r n = number_line refusal_key (script_refusal r) ++ (number_line li
 
 -- what is written for an answer
 abbrev pub answer_text : Script → List Event → List ℕ
-answer_text (Events n) es = listed n es
-answer_text (Refused r n) es = refusal_text r n
+answer_text (Ok n) es = listed n es
+answer_text (Err refused) es = refusal_text refused.refusal refused.line
 
 -- the most events that the program takes, and the words lent to the reader for them
 abbrev pub most_reported : ℕ
@@ -107,8 +103,8 @@ abbrev pub enough : ℕ
 enough = 28 + 66 * most_reported
 
 -- the answer and the lent bytes: nothing is written where fewer than enough are lent
-unfoldable pub report_of : List ℕ → ℕ → Reported
-report_of text have = cond (leb enough have) (Written (length (report_text text))) NoRoom
+unfoldable pub report_of : List ℕ → ℕ → Option ℕ
+report_of text have = cond (leb enough have) (Some (length (report_text text))) None
 
 unfoldable pub bytes_after : List ℕ → List ℕ → List ℕ
 bytes_after text out = cond (leb enough (length out)) (report_text text ++ drop (length (report_text text)) out) out

@@ -2,3 +2,5 @@
 pub mod Walking
 pub mod Sure
 pub mod Plain
+pub mod Table
+pub mod Told

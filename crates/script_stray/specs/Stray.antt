@@ -1,6 +1,6 @@
 -- The line that refusal 2 tells (RULES, "Fault scripts"): the first with a byte over 127 before its first `#`, or with something behind it that
 -- is no UTF-8. A line ends at a line feed, in a comment too. Assumes nothing.
-use Rattle.std.specs.Prelude.{Bool, false, cond, not, ◌||◌, List, [], ◌∷◌, ℕ, suc, ltb, eqb, drop}
+use Rattle.std.specs.Prelude.{Bool, false, cond, not, ◌||◌, List, [], ◌∷◌, ℕ, zero, suc, ltb, eqb, drop, Option, None, Some}
 use Rattle.script_words.specs.Words.{until, cut_at, lines_of}
 use Rattle.script_utf8.specs.Utf8.{is_utf8}
 
@@ -24,3 +24,8 @@ first_stray n (l ∷ ls) = cond (is_stray l) n (first_stray (suc n) ls)
 
 unfoldable pub stray_line : List ℕ → ℕ
 stray_line text = first_stray 1 (lines_of text)
+
+-- a line's number as the code has it: none for 0
+unfoldable pub line_told : ℕ → Option ℕ
+line_told zero = None
+line_told (suc n) = Some (suc n)

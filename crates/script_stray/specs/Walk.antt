@@ -35,7 +35,3 @@ unfoldable pub words_plain : (comment : Bool) → List ℕ → Bool
 words_plain comment [] = true
 words_plain false (b ∷ bs) = cond (ltb 127 b) false (words_plain (eqb 35 b) bs)
 words_plain true (b ∷ bs) = words_plain (not (eqb 10 b)) bs
-
--- how many bytes of a comment are looked at together
-abbrev pub block_bytes : ℕ
-block_bytes = 16

@@ -23,21 +23,13 @@ pub fn surely(text: &[u8]) -> bool
     ensures { result ≡ true → is_utf8 text.now ≡ true }
 {
     let n = text.len();
-    if n < 4 {
-        return false;
-    }
-    if (0x80 <= text[0]) | (0x80 <= text[1]) {
+    if n < 4 || 0x80 <= text[0] || 0x80 <= text[1] {
         return false;
     }
     let mut bad = wrong(0, 0, 0, text[2]);
-    let mut i: usize = 3;
-    while i < n {
-        bad = bad | wrong(text[i - 3], text[i - 2], text[i - 1], text[i]);
-        i += 1;
-    }
-    if bad {
-        return false;
+    for i in 3..n {
+        bad |= wrong(text[i - 3], text[i - 2], text[i - 1], text[i]);
     }
     let more = (0xC2 <= text[n - 1]) | (0xE0 <= text[n - 2]) | (0xF0 <= text[n - 3]);
-    !more
+    !(bad | more)
 }

@@ -5,14 +5,12 @@ use mathlib.Core.List.{List, [], ◌∷◌}
 use mathlib.Core.Path.{◌≡◌, refl, sym, ap, ◌∙◌}
 use Prim.Native.Nat.{ℕ, suc, ◌+◌, ◌-◌, ◌≤◌, ◌<◌}
 use native.Mathlib.Omega.{arith}
-use lib.ListN.{length, take, drop}
+use lib.ListN.{length, take, drop, length-drop}
 use borrow.Author.Tests.{eqb-true, eqb-false, eq-eqb, ne_eqb}
 use lib.Dec.{eqb}
-use lib.Seq.{drop-drop}
-use Rattle.script_words.specs.Words.{is_space, not_space, until, joined, strip_front, kept_before, strip_end, strip, begins, line_words, start_from, word_from, first_words, lines_of}
-use Rattle.script_words.specs.declared.FirstWords.{FirstWords}
+use lib.Seq.{drop-drop, length-take-le}
+use Rattle.script_words.specs.Words.{is_space, not_space, until, joined, strip_front, kept_before, strip_end, strip, begins, line_words, start_from, word_from, part, lines_of}
 use Rattle.script_words.proofs.Walk.{until_in}
-use Rattle.script_words.specs.declared.Bounds.{Bounds}
 
 -- a word and those after it; where the word is empty there are none
 abbrev pub led : List ℕ → List (List ℕ) → List (List ℕ)
@@ -43,7 +41,7 @@ begins_or_not : (s : Bool) (b : ℕ) (bs : List ℕ) (n : ℕ) → is_space b �
     → begins (drop (cond (not s) 0 (suc n)) (b ∷ bs)) ≡ false → drop (cond (not s) 0 (suc n)) (b ∷ bs) ≡ []
 unfolding begins not_space
 begins_or_not true b bs n e h f = h f
-begins_or_not false b bs n e h f = let g : true ≡ false = rw e at f in let z : ◌≡◌ {A = ℕ} 0 1 = cc in absurd (omega arith)
+begins_or_not false b bs n e h f = let g : true ≡ false = rw e at f in absurd (cc)
 
 gap_begins : (l : List ℕ) → begins (drop (until not_space l) l) ≡ false → drop (until not_space l) l ≡ []
 unfolding until not_space
@@ -58,7 +56,7 @@ no_run (b ∷ bs) h = stopped (is_space b) h
   where
     stopped : (s : Bool) → not s ≡ false → cond s 0 (suc (until is_space bs)) ≡ 0
     stopped true e = refl
-    stopped false e = let z : ◌≡◌ {A = ℕ} 0 1 = cc in absurd (omega arith)
+    stopped false e = absurd (cc)
 
 one_more : (t : Bool) (b : ℕ) (bs : List ℕ) → begins bs ≡ t → (begins bs ≡ true → line_words bs ≡ take (until is_space bs) bs ∷ line_words (drop (until is_space bs) bs))
     → cond t (joined b (line_words bs)) ((b ∷ []) ∷ line_words bs) ≡ (b ∷ take (until is_space bs) bs) ∷ line_words (drop (until is_space bs) bs)
@@ -70,17 +68,17 @@ by_space : (s : Bool) (b : ℕ) (bs : List ℕ) → is_space b ≡ s → not s �
     → (begins bs ≡ true → line_words bs ≡ take (until is_space bs) bs ∷ line_words (drop (until is_space bs) bs))
     → line_words (b ∷ bs) ≡ take (until is_space (b ∷ bs)) (b ∷ bs) ∷ line_words (drop (until is_space (b ∷ bs)) (b ∷ bs))
 unfolding line_words until
-by_space true b bs e f h = let z : ◌≡◌ {A = ℕ} 0 1 = cc in absurd (omega arith)
+by_space true b bs e f h = absurd (cc)
 by_space false b bs e f h = rw e (one_more (begins bs) b bs refl h)
 
 word_first : (l : List ℕ) → begins l ≡ true → line_words l ≡ take (until is_space l) l ∷ line_words (drop (until is_space l) l)
 unfolding begins not_space
-word_first [] h = let z : ◌≡◌ {A = ℕ} 0 1 = cc in absurd (omega arith)
+word_first [] h = absurd (cc)
 word_first (b ∷ bs) h = by_space (is_space b) b bs refl h (word_first bs)
 
 -- ---- so at any place stands the next word, and behind it the others
 first_led : (s : Bool) (b : ℕ) (bs : List ℕ) (ws : List (List ℕ)) (k : ℕ) → not s ≡ true → take (cond s 0 (suc k)) (b ∷ bs) ∷ ws ≡ led (take (cond s 0 (suc k)) (b ∷ bs)) ws
-first_led true b bs ws k e = let z : ◌≡◌ {A = ℕ} 0 1 = cc in absurd (omega arith)
+first_led true b bs ws k e = absurd (cc)
 first_led false b bs ws k e = refl
 
 word_here : (t : Bool) (l : List ℕ) → begins l ≡ t → (begins l ≡ false → l ≡ []) → line_words l ≡ led (take (until is_space l) l) (line_words (drop (until is_space l) l))
@@ -168,42 +166,26 @@ unfolding lines_of until
 next_line [] h = absurd (omega arith)
 next_line (b ∷ bs) h = rw (eqb_swap b 10) (next_one (eqb 10 b) b bs h (next_line bs))
 
--- ---- the first three words, and that they stand within the line
+-- ---- a word stands within the line
 pub from_in : (l : List ℕ) (place : ℕ) → place ≤ length l → ((word_from l place).start ≤ (word_from l place).end) × ((word_from l place).end ≤ length l)
 unfolding word_from
 from_in l place h = (omega arith, until_in is_space l (start_from l place) (until_in not_space l place h))
 
-pub record Inside (l : List ℕ) (w : FirstWords) : Type 0 where
-  pub tick_rises : w.tick.start ≤ w.tick.end
-  pub tick_ends : w.tick.end ≤ length l
-  pub name_rises : w.name.start ≤ w.name.end
-  pub name_ends : w.name.end ≤ length l
-  pub id_rises : w.id.start ≤ w.id.end
-  pub id_ends : w.id.end ≤ length l
+-- ---- the next word by itself: none is left, or one and those behind it
+led_some : (w : List ℕ) (ws : List (List ℕ)) → 0 < length w → led w ws ≡ w ∷ ws
+led_some [] ws h = absurd (omega arith)
+led_some (b ∷ bs) ws h = refl
 
-inside_first : (l : List ℕ) → Inside l (first_words l)
-unfolding first_words
-inside_first l =
-    let a = from_in l 0 (omega arith) in
-    let b = from_in l (word_from l 0).end a.1 in
-    let d = from_in l (word_from l (word_from l 0).end).end b.1 in
-    record { tick_rises = a.0; tick_ends = a.1; name_rises = b.0; name_ends = b.1; id_rises = d.0; id_ends = d.1 }
+pub no_word : (l : List ℕ) (place : ℕ) → (word_from l place).start ≡ (word_from l place).end → line_words (drop place l) ≡ []
+no_word l place e =
+    let b = word_from l place in
+    let z : b.end - b.start ≡ 0 = omega arith in
+    rw z at (word_at l place)
 
-pub inside : (l : List ℕ) (w : FirstWords) → w ≡ first_words l → Inside l w
-inside l w e = rw e (inside_first l)
-
--- the bytes between two places
-abbrev pub part : List ℕ → Bounds → List ℕ
-part l b = take (b.end - b.start) (drop b.start l)
-
-three_first : (l : List ℕ)
-    → line_words l ≡ led (part l (first_words l).tick) (led (part l (first_words l).name) (led (part l (first_words l).id) (line_words (drop (first_words l).id.end l))))
-unfolding first_words
-three_first l =
-    let a = word_from l 0 in
-    let b = word_from l a.end in
-    word_at l 0 ∙ ap (led (part l a)) (word_at l a.end ∙ ap (led (part l b)) (word_at l b.end))
-
-pub three_words : (l : List ℕ) (w : FirstWords) → w ≡ first_words l
-    → line_words l ≡ led (part l w.tick) (led (part l w.name) (led (part l w.id) (line_words (drop w.id.end l))))
-three_words l w e = rw e (three_first l)
+pub a_word : (l : List ℕ) (place : ℕ) → place ≤ length l → ((word_from l place).start ≡ (word_from l place).end → ⊥)
+    → line_words (drop place l) ≡ part l (word_from l place) ∷ line_words (drop (word_from l place).end l)
+a_word l place h e =
+    let b = word_from l place in
+    let k = from_in l place h in
+    word_at l place ∙ led_some (part l b) (line_words (drop b.end l))
+    (omega (arith, length-take-le (b.end - b.start) (drop b.start l) (omega (arith, length-drop b.start l)), k))

@@ -4,7 +4,6 @@ use mathlib.Core.Bool.{Bool, true, false, cond, ◌&&◌, or-true, or-false}
 use mathlib.Core.List.{List, [], ◌∷◌, ◌++◌}
 use mathlib.Core.Path.{◌≡◌, refl, ap, ◌∙◌}
 use Prim.Native.Nat.{ℕ, ◌≤◌}
-use native.Mathlib.Omega.{arith}
 use borrow.Author.Tests.{leb-true, le-leb, eq-eqb, ne_eqb}
 use lib.Dec.{leb}
 use Rattle.script_words.specs.Words.{is_space, joined, begins, line_words}
@@ -30,8 +29,8 @@ AllWords (w ∷ ws) = IsWord w × AllWords ws
 mark : (b : ℕ) → is_space b ≡ false → Mark b
 unfolding is_space
 mark b e = (
-  λ h k. let f : true ≡ false = rw (le-leb 9 b h, le-leb b 13 k) at e in let z : ◌≡◌ {A = ℕ} 0 1 = cc in omega arith,
-  λ h. let f : true ≡ false = rw (eq-eqb b 32 h, or-true) at e in let z : ◌≡◌ {A = ℕ} 0 1 = cc in omega arith,
+  λ h k. let f : true ≡ false = rw (le-leb 9 b h, le-leb b 13 k) at e in cc,
+  λ h. let f : true ≡ false = rw (eq-eqb b 32 h, or-true) at e in cc,
 )
 
 mark_back : (b : ℕ) → Mark b → is_space b ≡ false

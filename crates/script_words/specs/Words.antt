@@ -1,8 +1,7 @@
 -- A text cut into lines, a line cut at its comment, stripped, and cut into words (RULES, "Fault scripts"). Bytes are numbers.
 -- Assumes nothing.
-use Rattle.std.specs.Prelude.{Bool, false, cond, not, ◌&&◌, ◌||◌, List, [], ◌∷◌, ℕ, suc, ◌+◌, leb, eqb, take, drop}
+use Rattle.std.specs.Prelude.{Bool, false, cond, not, ◌&&◌, ◌||◌, List, [], ◌∷◌, ℕ, suc, ◌+◌, ◌-◌, ◌<◌, ◌≡◌, leb, eqb, take, drop}
 use Rattle.script_words.specs.declared.Bounds.{Bounds}
-use Rattle.script_words.specs.declared.FirstWords.{FirstWords}
 
 -- white space: the bytes 9 to 13 and 32
 unfoldable pub is_space : ℕ → Bool
@@ -67,9 +66,14 @@ start_from l place = place + until not_space (drop place l)
 unfoldable pub word_from : List ℕ → ℕ → Bounds
 word_from l place = record { start = start_from l place; end = start_from l place + until is_space (drop (start_from l place) l) }
 
--- the first three words
-unfoldable pub first_words : List ℕ → FirstWords
-first_words l =
-    let first = word_from l 0 in
-    let second = word_from l first.end in
-    record { tick = first; name = second; id = word_from l second.end }
+-- the bytes between two places
+abbrev pub part : List ℕ → Bounds → List ℕ
+part l b = take (b.end - b.start) (drop b.start l)
+
+-- the words of a line from a place on
+abbrev pub words_from : List ℕ → ℕ → List (List ℕ)
+words_from l place = line_words (drop place l)
+
+-- a closure that is asked of each byte answers as a test does
+abbrev pub Stops : (ℕ → Bool → Type 0) → (ℕ → Bool) → Type 0
+Stops answers stop = (b : ℕ) (yes : Bool) → b < 256 → answers b yes → yes ≡ stop b

@@ -1,17 +1,15 @@
 -- The rules' worked numbers (RULES, "Worked numbers"): one row, one number. Every row speaks of the definitions that the contracts of the
 -- code cite. Assumes nothing.
-use Rattle.std.specs.Prelude.{ℕ, ◌-◌, ◌^◌, ◌≡◌, false, List, [], ◌∷◌, map, negsuc, Float, take, replicate}
+use Rattle.std.specs.Prelude.{ℕ, ◌-◌, ◌^◌, ◌≡◌, false, List, [], ◌∷◌, map, negsuc, Float, take, replicate, Ok, Err}
 use Rattle.std.specs.Float.{fin, binary64}
 use Rattle.std.specs.Float.Ieee.{to_bits}
 use Rattle.numeral.specs.Bytes.{bytes}
-use Rattle.numeral.specs.Reading.{number_of}
+use Rattle.numeral.specs.Reading.{flaw_at, number_of}
 use Rattle.numeral.specs.declared.Why.TheVariants.{NoDigit, StrayByte, TooLarge}
-use Rattle.numeral.specs.declared.Number.TheVariants.{Value, Bad}
 use Rattle.chance.specs.Probability.{threshold_of}
-use Rattle.chance.specs.Draw.{gen_bool_in_send}
-use Rattle.chance.specs.declared.Draw.TheVariants.{No}
+use Rattle.chance.specs.Draw.{drawn, gen_bool_in_send}
 use Rattle.plants.specs.State.{fresh_plants}
-use Rattle.plants_liveness.specs.Choice.{chosen}
+use Rattle.plants_liveness.specs.Choice.{chosen, ids_of}
 use Rattle.properties_durability.specs.Durability.{needed_copies}
 use Rattle.nights.specs.Record.{Record}
 use Rattle.nights.specs.Net.{Options, Letter, keep, is_due}
@@ -40,7 +38,7 @@ threshold p = threshold_of (to_bits binary64 p)
 
 -- the core of 5 plants, all up, of which plant 0 is recovering, by the picks 4, 4, 3, 2, 1 and a last one
 abbrev pub core : ℕ → List ℕ
-core last = take 4 (chosen (fresh_plants 5) (1 ∷ 0 ∷ 0 ∷ 0 ∷ 0 ∷ []) (4 ∷ 4 ∷ 3 ∷ 2 ∷ 1 ∷ last ∷ []) false).core
+core last = take 4 (ids_of (chosen (fresh_plants 5) (1 ∷ 0 ∷ 0 ∷ 0 ∷ 0 ∷ []) (4 ∷ 4 ∷ 3 ∷ 2 ∷ 1 ∷ last ∷ []) false).answer)
 
 -- the run: loss 0.5, replay 0.5, minimum 2, mean 10; a send at 10 of kind 1, draws 9223372036854775808 and 0, extras 5 and 0
 abbrev pub options : Options
@@ -82,7 +80,7 @@ pub record Worked : Type 0 where
   pub below_one : threshold largest_below_one ≡ 18446744073709549568
   pub minus_64 : threshold two_to_minus64 ≡ 1
   pub minus_65 : threshold two_to_minus65 ≡ 0
-  pub minus_65_draws : gen_bool_in_send two_to_minus65 (0 ∷ []) 0 ≡ No 1
+  pub minus_65_draws : gen_bool_in_send two_to_minus65 (0 ∷ []) 0 ≡ drawn false 1
   -- cores
   pub last_pick_0 : core 0 ≡ 0 ∷ 1 ∷ 2 ∷ 3 ∷ []
   pub last_pick_1 : core 1 ≡ 1 ∷ 2 ∷ 3 ∷ 4 ∷ []
@@ -90,14 +88,14 @@ pub record Worked : Type 0 where
   pub four_of_four : needed_copies 4 4 ≡ 2
   pub two_of_five : needed_copies 5 2 ≡ 0
   -- ticks: `+007`, `1,500`, 18446744073709551615 and one more; a bad one with why and where, the earliest reason
-  pub plus_007 : number_of (bytes "+007") ≡ Value 7
-  pub comma : number_of (bytes "1,500") ≡ Bad StrayByte 1
-  pub largest : number_of (bytes "18446744073709551615") ≡ Value 18446744073709551615
-  pub one_more : number_of (bytes "18446744073709551616") ≡ Bad TooLarge 19
-  pub one_more_then_stray : number_of (bytes "18446744073709551616x") ≡ Bad TooLarge 19
-  pub no_word : number_of (bytes "") ≡ Bad NoDigit 0
-  pub plus_alone : number_of (bytes "+") ≡ Bad NoDigit 1
-  pub plus_then_stray : number_of (bytes "+x") ≡ Bad StrayByte 1
+  pub plus_007 : number_of (bytes "+007") ≡ Ok 7
+  pub comma : number_of (bytes "1,500") ≡ Err (flaw_at StrayByte 1)
+  pub largest : number_of (bytes "18446744073709551615") ≡ Ok 18446744073709551615
+  pub one_more : number_of (bytes "18446744073709551616") ≡ Err (flaw_at TooLarge 19)
+  pub one_more_then_stray : number_of (bytes "18446744073709551616x") ≡ Err (flaw_at TooLarge 19)
+  pub no_word : number_of (bytes "") ≡ Err (flaw_at NoDigit 0)
+  pub plus_alone : number_of (bytes "+") ≡ Err (flaw_at NoDigit 1)
+  pub plus_then_stray : number_of (bytes "+x") ≡ Err (flaw_at StrayByte 1)
   -- the run: the copy due 17 seq 1, the original due 12 seq 2, delayed 1
   pub draws_used : (decided options 10 1 draws extras).draws ≡ 2
   pub extras_used : (decided options 10 1 draws extras).extras ≡ 2

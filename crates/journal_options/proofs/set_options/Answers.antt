@@ -22,14 +22,14 @@ returns-in_default c =
 pub returns-in_default-room : goal.returns-in_default-room
 unfolding undo_words
 returns-in_default-room c =
-    let done = sym c.set_options-next.ensures.answer ∙ ap settled_of c.in-Done.is in
+    let done = sym c.set_options-next.ensures.answer ∙ ap settled_of c.in-Ok.is in
     let j = sym c.room_for-room.ensures ∙ ap settled_of c.in_default-room.is in
     let m = refused_then (choose (plain_options c.args.options)) c.args.network c.args.journal.now done _ 7 refl j in
     record { network = m.network; answer = ap settled_of c.in_default-room.is ∙ m.answer; journal = m.words }
 
 pub options_record-record-requires : goal.options_record-record-requires
 options_record-record-requires c =
-    let done = sym c.set_options-next.ensures.answer ∙ ap settled_of c.in-Done.is in
+    let done = sym c.set_options-next.ensures.answer ∙ ap settled_of c.in-Ok.is in
     let n = c.args.network in
     options_good (plain_of n) (plain_formed n (was_formed (choose (plain_options c.args.options)) n done))
 
@@ -37,14 +37,14 @@ pub append-requires : goal.append-requires
 append-requires c =
     let r = c.options_record-record in
     let z : length r.result ≡ 7 = ap length r.ensures in
-    roomy c.args.journal.now (length r.result) (rw z (sym c.room_for-room.ensures ∙ ap settled_of c.in-Done-room.is))
+    roomy c.args.journal.now (length r.result) (rw z (sym c.room_for-room.ensures ∙ ap settled_of c.in-Ok-room.is))
 
 pub returns : goal.returns
 unfolding undo_words
 returns c =
     let n = c.set_options-next.ensures in
-    let done = sym n.answer ∙ ap settled_of c.in-Done.is in
-    let room = sym c.room_for-room.ensures ∙ ap settled_of c.in-Done-room.is in
+    let done = sym n.answer ∙ ap settled_of c.in-Ok.is in
+    let room = sym c.room_for-room.ensures ∙ ap settled_of c.in-Ok-room.is in
     let r = c.options_record-record in
     let m =
     accepted (choose (plain_options c.args.options)) c.args.network c.args.journal.now done r.result r.ensures (rw r.ensures room) in

@@ -1,28 +1,31 @@
 -- `journal_undo_send::undo` meets its contract. Assumes nothing.
-use Prim.Native.Nat.{◌≤◌}
-use mathlib.Core.Path.{◌∙◌}
+use Prim.Native.Nat.{◌-◌, ◌≤◌}
+use mathlib.Core.Path.{◌≡◌, ◌∙◌}
 use native.Mathlib.Omega.{arith}
-use Rattle.network_form.proofs.Maps.{small}
-use Rattle.journal_tests.proofs.Telling.{told_misfit}
-use Rattle.journal_undo_send.proofs.Sends.{send_size, none_sent, send_fits, send_leaves}
+use lib.ListN.{length}
+use Rattle.network_queue.specs.Packed.{array_size}
+use Rattle.journal_tests.proofs.Rows.{row_length, row_at, row_first}
+use Rattle.journal_undo_send.proofs.Sends.{send_fits, send_leaves}
 use Rattle.journal_undo_send.proofs.undo.Goals as goal
-
-pub returns-then-end-start-ne-SEND_WORDS : goal.returns-then-end-start-ne-SEND_WORDS
-returns-then-end-start-ne-SEND_WORDS c = let told = told_misfit c.misfit.result c.misfit.ensures _ c.requires.0 (send_size _ _ _ _ _ c.if-end-start-ne-SEND_WORDS.true) in record { undone = told.0; formed = told.1.0; whole = told.1.1 }
-
-pub returns-then-head-eq0 : goal.returns-then-head-eq0
-returns-then-head-eq0 c = let told = told_misfit c.misfit-then-head-eq0.result c.misfit-then-head-eq0.ensures _ c.requires.0 (none_sent _ _ _ _ _ c.if-head-eq0.true) in record { undone = told.0; formed = told.1.0; whole = told.1.1 }
-
-pub drop_above-requires : goal.drop_above-requires
-drop_above-requires c = (c.requires.0, small c.args.head c.args.w.now c.requires.1)
 
 pub returns : goal.returns
 returns c =
-    let d = c.drop_above in
-    let size = c.if-end-start-ne-SEND_WORDS.false in
-    let some = c.if-head-eq0.false in
-    let low : 8 ≤ c.args.end = omega (arith, size, c.requires.2, c.requires.3) in
-    let left =
-    send_leaves c.args.head c.args.w.now c.requires.1 c.requires.0 _ _ _ _ _ _ d.ensures.count d.ensures.words c.args.start _
-    c.counts_good-fits.ensures in
-    record { undone = left.0 ∙ send_fits _ _ _ _ _ size low some; formed = left.1.0; whole = left.1.1 }
+    let a = c.args in
+    let p = c.requires in
+    let words = row_length a.journal.now a.start a.end p.2 p.3 in
+    let size : a.end - a.start ≡ 6 = omega arith in
+    let low : 8 ≤ a.end = omega arith in
+    let d = c.drop_above.ensures in
+    let long : length a.w.now ≡ array_size = omega arith in
+    let left = send_leaves a.head a.w.now p.0 long _ _ _ _ _ _ d.count d.words a.start _ c.counts_good-fits.ensures in
+    let at = row_at a.journal.now a.start a.end p.2 p.3 in
+    record {
+      undone =
+          rw c.then_some.ensures
+          (left.0
+          ∙ send_fits _ _ _ _ _ size low c.if-head-eq0.false _ _ _ _ (row_first a.journal.now a.start a.end p.2 p.3 (omega arith))
+          (at 1 (omega arith))
+          (at 2 (omega arith))
+          (at 3 (omega arith)));
+      formed = rw c.then_some.ensures left.1;
+    }

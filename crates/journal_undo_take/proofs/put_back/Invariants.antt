@@ -1,9 +1,5 @@
-use Prim.Native.Nat.{◌-◌}
 use Rattle.journal_undo_take.proofs.PuttingBack.{Putting}
 use Rattle.journal_undo_take.proofs.put_back.Given as goal
 
 abbrev pub invariant-loop-i : goal.invariant-loop-i
 invariant-loop-i l = Putting l.initial.w l.n l.journal l.b l.t l.w l.i
-
-abbrev pub decreases-loop-i : goal.decreases-loop-i
-decreases-loop-i l = l.t - l.i

@@ -5,8 +5,8 @@ use Rattle.network_form.proofs.Maps.{small, words_are}
 use Rattle.network_batch.proofs.take_back.Goals as goal
 
 pub drop_above-requires : goal.drop_above-requires
-drop_above-requires c = (c.requires.0, small c.args.after c.args.records.now c.requires.1)
+drop_above-requires c = small c.args.after c.args.records.now c.requires
 
 pub returns : goal.returns
 returns c = let a = c.args in
-    dropped a.records.now a.after.pending (sym (words_are a.after a.records.now c.requires.1 c.requires.0)) (small a.after a.records.now c.requires.1) a.last _ _ c.drop_above.ensures.count c.drop_above.ensures.words
+    dropped a.records.now a.after.pending (sym (words_are a.after a.records.now c.requires c.told-records)) (small a.after a.records.now c.requires) a.last _ _ c.drop_above.ensures.count c.drop_above.ensures.words

@@ -13,6 +13,6 @@ pub returns-then-kind-ne-REQUEST : goal.returns-then-kind-ne-REQUEST
 unfolding is_faulted
 returns-then-kind-ne-REQUEST c = rw (ne_eqb _ request_kind c.if-kind-ne-REQUEST.true)
 
-pub returns : goal.returns
+pub returns-else-kind-ne-REQUEST : goal.returns-else-kind-ne-REQUEST
 unfolding is_faulted
-returns c = rw (eq-eqb _ request_kind c.if-kind-ne-REQUEST.false) (twice_not _)
+returns-else-kind-ne-REQUEST c = rw (eq-eqb _ request_kind c.if-kind-ne-REQUEST.false) (twice_not _)

@@ -22,5 +22,5 @@ pub returns : goal.returns
 returns c = let e = c.extra_at-extra.ensures in
     let s = c.extras_for-used.ensures in
     rw (e, s)
-    (one_told (plain_options c.args.options) c.args.now c.args.extras.now c.args.draws (omega (arith, s, c.if-extras-used.false)) c.in-At.due
-    (rw e at (sym c.due_tick.ensures ∙ ap tick_of c.in-At.is)))
+    (one_told (plain_options c.args.options) c.args.now c.args.extras.now c.args.draws (omega (arith, s, c.if-extras-used.false)) c.in-Some.due
+    (rw e at (sym c.due_tick.ensures ∙ ap tick_of c.in-Some.is)))

@@ -30,6 +30,6 @@ returns c = let e = c.extra_at-copy_extra.ensures in
     let f = c.extra_at-extra.ensures in
     let s = c.extras_for-used.ensures in
     rw (e, f, s)
-    (two_told (plain_options c.args.options) c.args.now c.args.extras.now c.args.draws (omega (arith, s, c.if-extras-used.false)) c.in-At.copy c.in-At-due_tick.original
-    (rw e at (sym c.due_tick.ensures ∙ ap tick_of c.in-At.is))
-    (rw f at (sym c.due_tick-2.ensures ∙ ap tick_of c.in-At-due_tick.is)))
+    (two_told (plain_options c.args.options) c.args.now c.args.extras.now c.args.draws (omega (arith, s, c.if-extras-used.false)) c.in-Some.copy c.in-Some-due_tick.original
+    (rw e at (sym c.due_tick.ensures ∙ ap tick_of c.in-Some.is))
+    (rw f at (sym c.due_tick-2.ensures ∙ ap tick_of c.in-Some-due_tick.is)))

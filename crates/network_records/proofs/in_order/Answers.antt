@@ -7,34 +7,22 @@ use Rattle.network_records.proofs.Walking.{walk_on, walk_fails, walk_ends}
 use Rattle.network_records.proofs.in_order.Goals as goal
 
 pub loop-i-init : goal.loop-i-init
-loop-i-init c = (omega arith, rw sub-zero)
-
-pub overflow_mul-i : goal.overflow_mul-i
-overflow_mul-i c = omega arith
-
-pub record_at-r-requires : goal.record_at-r-requires
-record_at-r-requires c = omega arith
+loop-i-init c = rw sub-zero
 
 pub returns-then-not-may_follow : goal.returns-then-not-may_follow
 returns-then-not-may_follow c = let r = c.record_at-r in
     let l = c.loop-i in
     let a = c.args in
-    walk_fails a.w.now a.n a.last l.d l.q l.i l.invariant.1 (plain_record r.result) r.ensures (omega arith)
+    walk_fails a.w.now a.n a.last l.d l.q l.i l.invariant (plain_record r.result) r.ensures (omega arith)
     (sym c.may_follow.ensures ∙ c.if-not-may_follow.true)
-
-pub overflow_add-i : goal.overflow_add-i
-overflow_add-i c = omega arith
-
-pub loop-i-smaller : goal.loop-i-smaller
-loop-i-smaller c = omega arith
 
 pub loop-i-preserved : goal.loop-i-preserved
 loop-i-preserved c = let r = c.record_at-r in
     let l = c.loop-i in
     let a = c.args in
-    (omega arith, walk_on a.w.now a.n a.last l.d l.q l.i l.invariant.1 (plain_record r.result) r.ensures (omega arith) (sym c.may_follow.ensures ∙ c.if-not-may_follow.false))
+    walk_on a.w.now a.n a.last l.d l.q l.i l.invariant (plain_record r.result) r.ensures (omega arith) (sym c.may_follow.ensures ∙ c.if-not-may_follow.false)
 
 pub returns : goal.returns
 returns c = let l = c.loop-i in
     let a = c.args in
-    walk_ends a.w.now a.n a.last l.d l.q l.i l.invariant.1 c.loop-i-test.false
+    walk_ends a.w.now a.n a.last l.d l.q l.i l.invariant c.loop-i-test.false

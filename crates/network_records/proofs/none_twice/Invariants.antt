@@ -3,6 +3,3 @@ use Rattle.network_records.proofs.none_twice.Given as goal
 
 abbrev pub invariant-loop-i : goal.invariant-loop-i
 invariant-loop-i l = Apart l.w l.n l.marks l.i
-
-abbrev pub decreases-loop-i : goal.decreases-loop-i
-decreases-loop-i l = l.i

@@ -6,9 +6,6 @@ use Rattle.network_send.specs.Sends.{plain_letter}
 use Rattle.network_send.proofs.Testing.{unsent}
 use Rattle.network_send.proofs.send_in.Goals as goal
 
-pub send_on-requires : goal.send_on-requires
-send_on-requires c = (c.requires, sym c.formed.ensures ∙ c.if-formed.true)
-
 pub returns : goal.returns
 returns c = let a = c.args in let told = unsent a.head a.w.now (plain_letter a.letter) a.draws.now a.extras.now 23
     (call_ill a.head a.w.now (send (plain_letter a.letter) a.draws.now a.extras.now) (sym c.formed.ensures ∙ c.if-formed.false)) in record { head = told.0; records = told.1.0; answer = told.1.1 }

@@ -8,14 +8,13 @@ use Rattle.plants_lineup.specs.Core.{those, has_flag}
 use Rattle.plants_lineup.proofs.Tallies.{all_below}
 use Rattle.plants_lineup.proofs.Walks.{written_more, written_same, has_room, one_found, all_found}
 use Rattle.plants_lineup.proofs.append.Goals as goal
-use Rattle.plants_lineup.proofs.append.Goals.{then-flags-place, else-flags-place}
+use Rattle.plants_lineup.proofs.append.Goals.{then-flags-id, else-flags-id}
 
-pub loop-i-init : goal.loop-i-init
+pub loop-id-init : goal.loop-id-init
 unfolding those
-loop-i-init c =
+loop-id-init c =
     let a = c.args in
     let n = append-nil (take a.at a.line.now) in (
-      omega arith,
       refl,
       (
         ap length n ∙ length-take-le a.at a.line.now (omega arith),
@@ -24,54 +23,52 @@ loop-i-init c =
     )
 
 -- each id has its flag
-pub offset_bounds-flags-place : goal.offset_bounds-flags-place
-offset_bounds-flags-place c = omega (arith, all_below (length c.args.flags.now) c.args.ids.now c.requires.ids_value c.loop-i.i c.loop-i-test.true)
+pub offset_bounds-flags-id : goal.offset_bounds-flags-id
+offset_bounds-flags-id c = omega (arith, all_below (length c.args.flags.now) c.args.ids.now c.requires.ids_value c.loop-id.id-index c.loop-id-test.true)
 
-pub bounds-flags-place : goal.bounds-flags-place
-bounds-flags-place c = all_below (length c.args.flags.now) c.args.ids.now c.requires.ids_value c.loop-i.i c.loop-i-test.true
+pub bounds-flags-id : goal.bounds-flags-id
+bounds-flags-id c = all_below (length c.args.flags.now) c.args.ids.now c.requires.ids_value c.loop-id.id-index c.loop-id-test.true
 
 -- there is room for one that is found
 pub bounds-line-count : goal.bounds-line-count
 bounds-line-count c =
     let a = c.args in
-    let l = c.loop-i in
+    let l = c.loop-id in
     omega (
       arith,
-      has_room (has_flag a.flags.now a.flag) a.ids.now a.line.now a.at c.requires.ids_in_bounds l.i l.count c.loop-i-test.true
-          (eq-eqb _ _ c.if-flags-place.true) l.invariant.2.0,
+      has_room (has_flag a.flags.now a.flag) a.ids.now a.line.now a.at c.requires.ids_in_bounds l.id-index l.count c.loop-id-test.true
+          (eq-eqb _ _ c.if-flags-id.true) l.invariant.1.0,
     )
 
-pub loop-i-preserved : goal.loop-i-preserved
-loop-i-preserved c =
+pub loop-id-preserved : goal.loop-id-preserved
+loop-id-preserved c =
     let a = c.args in
-    let l = c.loop-i in
+    let l = c.loop-id in
     let line = a.line.now in
     let ids = a.ids.now in
     let test = has_flag a.flags.now a.flag in
-    let i = l.i in
+    let i = l.id-index in
     let front = take a.at line ++ those test (take i ids) in
     let next = take a.at line ++ those test (take (i + 1) ids) in
     let found = one_found test ids line a.at c.requires.ids_in_bounds i in
-    elim c.if-flags-place.branch [
-      | then-flags-place w ↦
-          let room = has_room test ids line a.at c.requires.ids_in_bounds i l.count c.loop-i-test.true (eq-eqb _ _ w.if-flags-place.true) l.invariant.2.0 in
+    elim c.if-flags-id.branch [
+      | then-flags-id w ↦
+          let room = has_room test ids line a.at c.requires.ids_in_bounds i l.count c.loop-id-test.true (eq-eqb _ _ w.if-flags-id.true) l.invariant.1.0 in
           rw (w.line-is, w.count-is) (
-            omega arith,
             simp length-set (omega arith),
             written_more front next line l.line l.count (get_or ids i 0) (omega (arith, room))
-                (found true (omega arith) (eq-eqb _ _ w.if-flags-place.true)) l.invariant.2,
+                (found true (omega arith) (eq-eqb _ _ w.if-flags-id.true)) l.invariant.1,
           )
-      | else-flags-place w ↦
+      | else-flags-id w ↦
           rw (w.line-is, w.count-is) (
             omega arith,
-            omega arith,
-            written_same front next line l.line l.count (found false (omega arith) (ne_eqb _ _ w.if-flags-place.false)) l.invariant.2,
+            written_same front next line l.line l.count (found false (omega arith) (ne_eqb _ _ w.if-flags-id.false)) l.invariant.1,
           )
     ]
 
 pub returns : goal.returns
 returns c =
     let a = c.args in
-    let l = c.loop-i in
-    let all = all_found (has_flag a.flags.now a.flag) a.ids.now a.line.now a.at c.requires.ids_in_bounds l.line l.i l.count (omega arith) l.invariant.2 in
+    let l = c.loop-id in
+    let all = all_found (has_flag a.flags.now a.flag) a.ids.now a.line.now a.at c.requires.ids_in_bounds l.line l.id-index l.count (omega arith) l.invariant.1 in
     record { count = all.0; line = all.1 }

@@ -1,29 +1,12 @@
--- `plants_lineup::flags_fit` meets its contract: a flag that is passed fits, so what is left decides. Assumes nothing.
-use mathlib.Core.Path.{refl, sym, ◌∙◌}
-use native.Mathlib.Omega.{arith}
-use Rattle.plants_lineup.proofs.Walks.{flag_fits, flag_over, flags_end}
+-- `plants_lineup::flags_fit` meets its contract. Assumes nothing.
+use Rattle.std.proofs.Common.{◌∙◌, leb, rules}
+use Rattle.std.proofs.lemmas.Iterator.{YieldsList-from_slice}
+use Rattle.std.proofs.lemmas.Iterator.Search.{all_from_yields_List}
+use borrow.Author.Tests.{tests}
+use Rattle.plants_lineup.proofs.Walks.{fit_by_all}
 use Rattle.plants_lineup.proofs.flags_fit.Goals as goal
 
-pub loop-i-init : goal.loop-i-init
-loop-i-init c = (omega arith, refl)
-
-pub offset_bounds-flags-i : goal.offset_bounds-flags-i
-offset_bounds-flags-i c = omega arith
-
-pub bounds-flags-i : goal.bounds-flags-i
-bounds-flags-i c = omega arith
-
-pub returns-then-flags-i-gt1 : goal.returns-then-flags-i-gt1
-returns-then-flags-i-gt1 c = sym (c.loop-i.invariant.1 ∙ flag_over c.args.flags.now c.loop-i.i (omega arith) c.if-flags-i-gt1.true)
-
-pub overflow_add-i : goal.overflow_add-i
-overflow_add-i c = omega arith
-
-pub loop-i-smaller : goal.loop-i-smaller
-loop-i-smaller c = omega arith
-
-pub loop-i-preserved : goal.loop-i-preserved
-loop-i-preserved c = (omega arith, c.loop-i.invariant.1 ∙ flag_fits c.args.flags.now c.loop-i.i (omega arith) c.if-flags-i-gt1.false)
-
 pub returns : goal.returns
-returns c = sym (c.loop-i.invariant.1 ∙ flags_end c.args.flags.now c.loop-i.i (omega arith))
+returns c =
+    all_from_yields_List (λ f. leb f 1) _ _ c.all.result c.all.ensures.ran (YieldsList-from_slice c.args.flags.now cc) (λ x b q k. search (rules, tests))
+    ∙ fit_by_all c.args.flags.now

@@ -1,12 +1,7 @@
-use Prim.Native.Nat.{◌-◌, ◌≤◌}
-use mathlib.Core.Path.{◌≡◌}
-use mathlib.Core.List.{◌++◌}
-use lib.ListN.{length, drop}
+use Rattle.std.proofs.Common.{◌≡◌, ◌++◌, drop}
 use Rattle.plants_lineup.specs.Core.{ids_from}
 use Rattle.plants_lineup.proofs.number.Given as goal
 
+-- The first i plants stand at the front.
 abbrev pub invariant-loop-i : goal.invariant-loop-i
-invariant-loop-i l = (l.i ≤ length l.initial.ids) × (length l.ids ≡ length l.initial.ids) × (l.ids ≡ ids_from 0 l.i ++ drop l.i l.initial.ids)
-
-abbrev pub decreases-loop-i : goal.decreases-loop-i
-decreases-loop-i l = length l.initial.ids - l.i
+invariant-loop-i l = l.ids ≡ ids_from 0 l.i ++ drop l.i l.initial.ids

@@ -1,28 +1,22 @@
 -- `plants_words::new` meets its contract: the fresh state's words, or nothing. Assumes nothing.
-use Rattle.std.proofs.Common.{◌≡◌, refl, [], ◌∷◌}
-use mathlib.Core.Logic.{inl, inr}
-use denote.Enum.Declared.{tag_of}
-use types.Run.{OneOf}
-use Rattle.plants.specs.contracts.Outcome as outcome
-use Rattle.plants.specs.declared.Outcome.{Outcome}
-use Rattle.plants.specs.declared.Outcome.TheVariants.{Done, Nonce, Refused}
-use Rattle.plants.specs.declared.refusal.Refusal.{Refusal}
-use Rattle.plants_words.proofs.Answering.{new_refused, new_done, not_refused}
+use Rattle.std.proofs.Common.{◌≡◌, sym, ap, ◌∙◌, cond, is_ok, true, false}
+use Rattle.plants_layout.specs.Layout.{state_words}
+use Rattle.plants_words.specs.Calls.{on_zero, outcome_number, new_words}
+use Rattle.plants_words.proofs.Answering.{by_ok}
 use Rattle.plants_words.proofs.new.Goals as goal
+use Rattle.plants_words.proofs.new.Goals.{then-is_ok, else-is_ok}
 
--- an outcome that is no refusal, by its tag
-other : (o : Outcome) → ((r : Refusal) → o ≡ Refused r → ⊥) → OneOf (0 ∷ 1 ∷ []) (tag_of outcome.the_type o)
-other Done h = inl refl
-other (Nonce d) h = inr refl
-other (Refused r) h = absurd (h r refl)
-
-pub returns-in-Refused : goal.returns-in-Refused
-returns-in-Refused c =
-    let t = new_refused c.args.n c.args.words.now c.new-next.result c.new-next.ensures _ _ c.in-Refused.is c.number.ensures in
-    record { answer = t.0; words = t.1 }
-
-pub returns : goal.returns
-returns c =
-    let o = c.new-next.result.outcome in
-    let t = new_done c.args.n c.args.words.now c.new-next.result c.new-next.ensures _ (not_refused o (other o c.in_default.not-Refused)) c.store.ensures in
-    record { answer = t.0; words = t.1 }
+pub returns-clause-words : goal.returns-clause-words
+returns-clause-words c =
+    let w = c.args.words.now in
+    let next = c.new-next.result in
+    let made : cond (is_ok next.answer) (state_words next.state) w ≡ new_words c.args.n w =
+    by_ok next.answer _ w ∙ ap (λ x. on_zero (outcome_number x.answer) (state_words x.state) w) c.new-next.ensures in
+    elim c.if-is_ok.branch [
+      | then-is_ok b ↦
+          let t : is_ok next.answer ≡ true = sym c.is_ok.ensures.value ∙ b.if-is_ok.true in
+          b.words-is ∙ (b.store.ensures ∙ (sym (ap (λ x. cond x (state_words next.state) w) t) ∙ made))
+      | else-is_ok b ↦
+          let t : is_ok next.answer ≡ false = sym c.is_ok.ensures.value ∙ b.if-is_ok.false in
+          b.words-is ∙ (sym (ap (λ x. cond x (state_words next.state) w) t) ∙ made)
+    ]

@@ -1,11 +1,8 @@
 use mathlib.Core.Path.{◌≡◌}
-use Prim.Native.Nat.{◌-◌, ◌≤◌}
-use lib.ListN.{length, drop}
+use lib.ListN.{drop}
 use Rattle.properties_convergence.specs.Core.{rises_below}
 use Rattle.properties_convergence.proofs.rises_below.Given as goal
 
-abbrev pub invariant-loop-k : goal.invariant-loop-k
-invariant-loop-k l = (l.k ≤ length l.core) × (rises_below l.n 0 l.core ≡ rises_below l.n l.least (drop l.k l.core))
-
-abbrev pub decreases-loop-k : goal.decreases-loop-k
-decreases-loop-k l = length l.core - l.k
+-- what is left of the ids, from the least that may follow, says what all of them say
+abbrev pub invariant-loop-word : goal.invariant-loop-word
+invariant-loop-word l = rises_below l.n 0 l.core ≡ rises_below l.n l.least (drop l.word-index l.core)

@@ -5,33 +5,41 @@ use mathlib.Core.List.{List}
 use mathlib.Core.Path.{◌≡◌, sym, ap, ◌∙◌}
 use Prim.Native.Nat.{ℕ, ◌+◌, ◌-◌, ◌<◌, min}
 use lib.Dec.{eqb}
-use lib.ListN.{get_or}
+use lib.ListN.{length, get_or, take, drop, length-drop}
+use lib.Seq.{length-take-le, get_or-take, get_or-drop}
 use Rattle.properties_snapshots.specs.Below.{all_below}
 use Rattle.properties_snapshots.specs.Cluster.{entry, cluster_in}
 use Rattle.properties_snapshots.specs.Layout.{id_at, commit_at, entry_at, last_at, seen_at}
-use Rattle.properties_snapshots.specs.Shape.{Snapshot, Forward}
+use Rattle.properties_snapshots.specs.Shape.{Snapshot, Tracked, Forward}
 use Rattle.properties_snapshots.proofs.Below.{all_same, all_split}
 use Rattle.properties_duplicates.specs.Duplicates.{id_of, unseen}
 use Rattle.properties_duplicates.proofs.Ids.{within, id_held, seen, logged}
 use Rattle.properties_duplicates.proofs.unseen.Goals as goal
 
-module _ (n : ℕ) (p l t : List ℕ) (s : Snapshot n p l) (f : Forward n p t) (r i : ℕ) (h : r < n) (k : i < get_or p (commit_at r) 0) where
+module _ (n : ℕ) (p l t : List ℕ) (s : Snapshot n p l) (w : Tracked n t) (f : Forward n p t) (r i : ℕ) (h : r < n) (k : i < get_or p (commit_at r) 0) where
   -- the two stretches
-  module _ (known at id : ℕ) (e : known ≡ min i (get_or t (last_at r) 0)) (a : at ≡ seen_at n r 0) (g : id ≡ get_or l (id_at (entry_at r i)) 0) where
+  module _ (known at id : ℕ) (e : known ≡ min i (get_or t (last_at r) 0)) (a : at ≡ seen_at n r 0) (g : id ≡ get_or l (id_at (entry_at r i)) 0) (m : ℕ) (z : m ≡ known) where
     abbrev differs : ℕ → Bool
     differs j = not (eqb (id_of (cluster_in n p l t) r j) (entry (cluster_in n p l t) r i).id)
 
+    abbrev ids : List ℕ
+    ids = take m (drop at t)
+
     abbrev front : Bool
-    front = all_below known (λ j. not (eqb (get_or t (at + j) 0) id))
+    front = all_below (length ids) (λ j. not (eqb (get_or ids j 0) id))
 
     abbrev back : Bool
     back = all_below (i - known) (λ j. not (eqb (get_or l (id_at (entry_at r (known + j))) 0) id))
 
+    long : length ids ≡ known
+    long = length-take-le m (drop at t) (omega (arith, length-drop at t, w.words, within n p l t s f r i h k)) ∙ z
+
     front_told : front ≡ all_below known differs
     front_told =
-        all_same known (λ j. not (eqb (get_or t (at + j) 0) id)) differs (λ j o.
-        let z : at + j ≡ seen_at n r j = omega arith in
-        rw (id_held n p l t s f r i h k, g, z, seen n p l t s f r j h (omega arith) (omega arith)))
+        ap (λ (x : ℕ). all_below x (λ j. not (eqb (get_or ids j 0) id))) long
+        ∙ all_same known (λ j. not (eqb (get_or ids j 0) id)) differs (λ j o.
+        let y : at + j ≡ seen_at n r j = omega arith in
+        rw (id_held n p l t s f r i h k, g, get_or-take m (drop at t) j 0 (omega arith), get_or-drop at t j 0, y, seen n p l t s f r j h (omega arith) (omega arith)))
 
     back_told : back ≡ all_below (i - known) (λ j. differs (known + j))
     back_told =
@@ -44,43 +52,26 @@ module _ (n : ℕ) (p l t : List ℕ) (s : Snapshot n p l) (f : Forward n p t) (
         let z : known + (i - known) ≡ i = omega arith in
         rw (front_told, back_told) (sym (all_split known (i - known) differs) ∙ ap (λ (x : ℕ). all_below x differs) z)
 
-    found : front ≡ false → false ≡ unseen (cluster_in n p l t) r i
-    found f = ap (λ (x : Bool). x && back) (sym f) ∙ stretches
+    found : front ≡ false → front ≡ unseen (cluster_in n p l t) r i
+    found f = f ∙ (ap (λ (x : Bool). x && back) (sym f) ∙ stretches)
 
     missed : front ≡ true → back ≡ unseen (cluster_in n p l t) r i
     missed f = ap (λ (x : Bool). x && back) (sym f) ∙ stretches
 
-pub logged_id-id-requires : goal.logged_id-id-requires
-logged_id-id-requires c = let a = c.args in
-    let pre = c.requires in
-    let w = within a.n a.plants.now a.logs.now a.tracker.now pre.snapshot.0 pre.snapshot.2 a.r a.i pre.r_lt_n.0 pre.r_lt_n.1 in
-    (omega (arith, pre.snapshot.0.few, pre.r_lt_n.0), omega (arith, w), omega (arith, w, pre.snapshot.0.logs, pre.r_lt_n.0))
-
-pub none_seen-requires : goal.none_seen-requires
-none_seen-requires c = let a = c.args in
-    let pre = c.requires in
-    let w = within a.n a.plants.now a.logs.now a.tracker.now pre.snapshot.0 pre.snapshot.2 a.r a.i pre.r_lt_n.0 pre.r_lt_n.1 in
-    omega (arith, w, c.seen_at-at.ensures, c.known_below-known.ensures, pre.snapshot.1.words, pre.r_lt_n.0)
-
-pub returns-then-not-none_seen : goal.returns-then-not-none_seen
-returns-then-not-none_seen c = let a = c.args in
-    let pre = c.requires in
-    let the_last = c.last_of.ensures in
-    found a.n a.plants.now a.logs.now a.tracker.now pre.snapshot.0 pre.snapshot.2 a.r a.i pre.r_lt_n.0 pre.r_lt_n.1 _ _ _
-    (c.known_below-known.ensures ∙ ap (min a.i) the_last) c.seen_at-at.ensures c.logged_id-id.ensures
-    (sym c.none_seen.ensures ∙ c.if-not-none_seen.true)
-
-pub none_logged-requires : goal.none_logged-requires
-none_logged-requires c = let a = c.args in
-    let pre = c.requires in
-    let w = within a.n a.plants.now a.logs.now a.tracker.now pre.snapshot.0 pre.snapshot.2 a.r a.i pre.r_lt_n.0 pre.r_lt_n.1 in
-    (omega (arith, pre.snapshot.0.few, pre.r_lt_n.0), omega (arith, c.known_below-known.ensures), omega (arith, w), omega (arith, pre.snapshot.0.logs, pre.r_lt_n.0))
-
-pub returns : goal.returns
-returns c = let a = c.args in
-    let pre = c.requires in
-    let the_last = c.last_of.ensures in
+pub returns-then-none_seen : goal.returns-then-none_seen
+returns-then-none_seen c =
+    let a = c.args.advance.now in
+    let s = a.snapshot in
     c.none_logged.ensures
-    ∙ missed a.n a.plants.now a.logs.now a.tracker.now pre.snapshot.0 pre.snapshot.2 a.r a.i pre.r_lt_n.0 pre.r_lt_n.1 _ _ _
-    (c.known_below-known.ensures ∙ ap (min a.i) the_last) c.seen_at-at.ensures c.logged_id-id.ensures
-    (sym c.none_seen.ensures ∙ c.if-not-none_seen.false)
+    ∙ missed s.n s.plants.now s.logs.now a.tracker.now s.fits a.tracked a.forward c.args.r c.args.i c.requires.0 c.requires.1 _ _ _
+    (c.min-known.ensures ∙ ap (min c.args.i) c.last_of.ensures.last) c.seen_at-at.ensures c.logged_id-id.ensures _ (omega arith)
+    (sym c.none_seen.ensures ∙ c.if-none_seen.true)
+
+pub returns-else-none_seen : goal.returns-else-none_seen
+returns-else-none_seen c =
+    let a = c.args.advance.now in
+    let s = a.snapshot in
+    c.none_seen.ensures
+    ∙ found s.n s.plants.now s.logs.now a.tracker.now s.fits a.tracked a.forward c.args.r c.args.i c.requires.0 c.requires.1 _ _ _
+    (c.min-known.ensures ∙ ap (min c.args.i) c.last_of.ensures.last) c.seen_at-at.ensures c.logged_id-id.ensures _ (omega arith)
+    (sym c.none_seen.ensures ∙ c.if-none_seen.false)

@@ -1,31 +1,24 @@
 -- `properties_judge::judge` meets its contract: the first answer that is no pass. Assumes nothing.
 use mathlib.Core.Path.{sym, ◌∙◌}
-use Rattle.properties_snapshots.specs.Cluster.{cluster_in}
-use Rattle.properties_verdicts.proofs.First.{then_stop}
-use Rattle.properties_commits.specs.Commits.{commit_numbers}
+use Rattle.std.proofs.lemmas.Result.{err_from_is_err_and}
 use Rattle.properties_commits.proofs.Forwards.{forward_known}
-use Rattle.properties_judge.specs.Ticks.{judged_entries, tick_judged}
+use Rattle.properties_judge.specs.Ticks.{tick_judged}
 use Rattle.properties_judge.proofs.judge.Goals as goal
 
-pub returns-in_default : goal.returns-in_default
+pub returns-in_err-commit_numbers : goal.returns-in_err-commit_numbers
 unfolding tick_judged
-returns-in_default c = let the-commit-numbers = c.commit_numbers-numbers in
-    let a = c.args in
-    let k = cluster_in a.n a.plants.now a.logs.now a.tracker.now in
-    the-commit-numbers.ensures a.logs.now
-    ∙ sym (then_stop (commit_numbers k) (judged_entries k) (λ e. c.in_default.not-Pass
-    (the-commit-numbers.ensures a.logs.now ∙ e)))
+returns-in_err-commit_numbers c =
+    let p = err_from_is_err_and c.from_residual.result c.from_residual.ensures.1 in
+    rw (p.1, p.2, sym (c.in_err-commit_numbers.ensures c.args.snapshot.now.logs.now))
 
-pub judge_entries-requires : goal.judge_entries-requires
-judge_entries-requires c = let pre = c.requires in
-    let a = c.args in (
-      pre.0,
-      pre.1,
-      forward_known a.n a.plants.now a.logs.now a.tracker.now
-          (sym (c.commit_numbers-numbers.ensures a.logs.now) ∙ c.in-Pass.is),
-    )
+pub invariant_of-judge_entries : goal.invariant_of-judge_entries
+invariant_of-judge_entries c = let a = c.args in
+    let s = a.snapshot.now in
+    record {
+      tracked = c.requires;
+      forward = forward_known s.n s.plants.now s.logs.now a.tracker.now (sym (c.in_ok-commit_numbers.ensures s.logs.now));
+    }
 
 pub returns : goal.returns
 unfolding tick_judged
-returns c = let a = c.args in
-    c.judge_entries.ensures ∙ rw (sym (c.commit_numbers-numbers.ensures a.logs.now) ∙ c.in-Pass.is)
+returns c = c.judge_entries.ensures ∙ rw (sym (c.in_ok-commit_numbers.ensures c.args.snapshot.now.logs.now))

@@ -1,10 +1,6 @@
-use Prim.Native.Nat.{◌-◌, ◌≤◌}
-use Rattle.properties_snapshots.specs.Cluster.{cluster_in}
+use Rattle.properties_snapshots.specs.Snapshots.{cluster_at}
 use Rattle.properties_marks.proofs.Walk.{Walked}
 use Rattle.properties_marks.proofs.by_marks.Given as goal
 
 abbrev pub invariant-loop-i : goal.invariant-loop-i
-invariant-loop-i l = (l.i ≤ l.commit) × Walked (cluster_in l.n l.plants l.logs l.tracker) l.r l.i l.seen
-
-abbrev pub decreases-loop-i : goal.decreases-loop-i
-decreases-loop-i l = l.commit - l.i
+invariant-loop-i l = Walked (cluster_at l.advance) l.r l.i l.seen

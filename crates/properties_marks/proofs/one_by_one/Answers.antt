@@ -1,57 +1,22 @@
--- `properties_marks::one_by_one` meets its contract. The loop's invariant: property 4 holds of what was passed. Assumes nothing.
-use native.Mathlib.Omega.{arith}
-use mathlib.Core.Bool.{false≢true}
-use mathlib.Core.Path.{sym, ◌∙◌}
-use Rattle.properties_marks.proofs.Walk.{passed_none, passed_more, passed_all}
+-- `properties_marks::one_by_one` meets its contract: each new entry was asked. Assumes nothing.
+use Rattle.std.proofs.Common.{rules, tests, arith, ◌≡◌, ◌-◌, refl, true, ℕ}
+use Rattle.std.proofs.lemmas.Iterator.{YieldsList-from_range, cases_from_all}
+use Rattle.properties_snapshots.specs.Snapshots.{cluster_at}
+use Rattle.properties_snapshots.proofs.Below.{all_yes}
+use Rattle.properties_snapshots.proofs.Held.{commit_held, last_held}
+use Rattle.properties_duplicates.specs.Duplicates.{unseen}
 use Rattle.properties_marks.proofs.one_by_one.Goals as goal
 
-pub commit_of-commit-requires : goal.commit_of-commit-requires
-commit_of-commit-requires c = let pre = c.requires in
-    (omega (arith, pre.0.few, pre.3), omega (arith, pre.0.plants, pre.3))
-
-pub last_of-i-requires : goal.last_of-i-requires
-last_of-i-requires c = let pre = c.requires in
-    (omega (arith, pre.0.few, pre.3), omega (arith, pre.1.words, pre.3))
-
-pub loop-i-init : goal.loop-i-init
-loop-i-init c = let a = c.args in
-    let pre = c.requires in (
-      omega (arith, c.commit_of-commit.ensures, c.last_of-i.ensures, pre.2.onward a.r pre.3),
-      passed_none a.n a.plants.now a.logs.now a.tracker.now pre.0 pre.2 a.r pre.3 _ c.last_of-i.ensures,
-    )
-
-pub unseen-requires : goal.unseen-requires
-unseen-requires c = let pre = c.requires in record { snapshot = (pre.0, pre.1, pre.2); r_lt_n = (pre.3, omega (arith, c.commit_of-commit.ensures, c.loop-i-test.true)) }
-
-pub returns-then-not-unseen : goal.returns-then-not-unseen
-returns-then-not-unseen c = λ e. absurd (false≢true e)
-
-pub overflow_add-i : goal.overflow_add-i
-overflow_add-i c = let a = c.args in
-    let pre = c.requires in
-    omega (
-      arith,
-      c.commit_of-commit.ensures,
-      c.loop-i-test.true,
-      pre.2.within a.r pre.3,
-      pre.0.sizes a.r pre.3,
-    )
-
-pub loop-i-smaller : goal.loop-i-smaller
-loop-i-smaller c = omega arith
-
-pub loop-i-preserved : goal.loop-i-preserved
-loop-i-preserved c = let a = c.args in
-    let pre = c.requires in
-    let loop = c.loop-i in (
-      omega arith,
-      passed_more a.n a.plants.now a.logs.now a.tracker.now pre.0 pre.2 a.r pre.3 loop.i loop.invariant.1
-          (sym c.unseen.ensures ∙ c.if-not-unseen.false),
-    )
-
 pub returns : goal.returns
-returns c = let a = c.args in
-    let pre = c.requires in
-    let loop = c.loop-i in λ e.
-    passed_all a.n a.plants.now a.logs.now a.tracker.now pre.0 pre.2 a.r pre.3 loop.i
-    (omega (arith, c.commit_of-commit.ensures, c.loop-i-test.false)) loop.invariant.1
+returns c = λ e i g h.
+    let a = c.args.advance.now in
+    let s = a.snapshot in
+    let from = c.last_of.result in
+    let to = c.commit_of.result in
+    let Yes : ℕ → Type 0 = λ i. unseen (cluster_at a) c.args.r i ≡ true in
+    let No : ℕ → Type 0 = λ i. Unit {0} in
+    let l = last_held s.n s.plants.now s.logs.now a.tracker.now c.args.r c.requires in
+    let k = commit_held s.n s.plants.now s.logs.now a.tracker.now c.args.r c.requires in
+    all_yes Yes _ c.all.result from (to - from)
+    (cases_from_all _ _ c.all.result Yes No c.all.ensures.ran (YieldsList-from_range from to _ refl refl) (λ x q k. search (rules, tests)) (λ x q k. tt)) e i
+    (omega (arith, c.last_of.ensures.last)) (omega (arith, c.commit_of.ensures.commit))

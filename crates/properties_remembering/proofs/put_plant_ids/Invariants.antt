@@ -1,9 +1,6 @@
-use mathlib.Core.List.{List}
-use mathlib.Core.Path.{◌≡◌}
-use Prim.Native.Nat.{ℕ, ◌+◌, ◌-◌, ◌≤◌}
-use lib.ListN.{length, get_or}
-use Rattle.properties_snapshots.specs.Below.{numbered}
+use Rattle.std.proofs.Common.{◌≡◌, ◌+◌, ◌-◌, ℕ, List, get_or}
 use Rattle.basis.specs.Basis.{laid}
+use Rattle.properties_snapshots.specs.Below.{numbered}
 use Rattle.properties_snapshots.specs.Layout.{id_at, entry_at, seen_at}
 use Rattle.properties_remembering.proofs.put_plant_ids.Given as goal
 
@@ -11,8 +8,4 @@ abbrev pub ids : List ℕ → ℕ → ℕ → ℕ → ℕ
 ids l r from k = get_or l (id_at (entry_at r (from + k))) 0
 
 abbrev pub invariant-loop-i : goal.invariant-loop-i
-invariant-loop-i l = (l.last ≤ l.i) × (l.i ≤ l.commit) × (length l.tracker ≡ length l.initial.tracker) ×
-    (l.tracker ≡ laid l.initial.tracker (seen_at l.n l.r l.last) (numbered (l.i - l.last) (ids l.logs l.r l.last)))
-
-abbrev pub decreases-loop-i : goal.decreases-loop-i
-decreases-loop-i l = l.commit - l.i
+invariant-loop-i l = l.tracker ≡ laid l.initial.tracker (seen_at l.snapshot.n l.r l.last) (numbered (l.i - l.last) (ids l.snapshot.logs.now l.r l.last))

@@ -46,27 +46,21 @@ module _ (n : ℕ) (p l t : List ℕ) (s : Snapshot n p l) (k : Tracked n t) (f 
             (length_held n p l t s k f),
       )
 
-pub number-known-requires : goal.number-known-requires
-number-known-requires c = let pre = c.requires in
-    omega (arith, pre.1.words)
-
 pub append-requires : goal.append-requires
-append-requires c = let pre = c.requires in
-    let the_number = c.number-known in
-    let the-length-after = c.length_after-longest in
-    let a = c.args in
-    let e = the_number.ensures in
-    let r = reach a.n a.plants.now a.logs.now a.tracker.now pre.0 pre.1 pre.2 the-length-after.result
-    (the-length-after.ensures ∙ ap (max_below a.n (λ r. get_or a.plants.now (commit_at r) 0)) e) in record { fewest_le_n = (pre.0.some, pre.0.few, pre.0.plants, pre.0.logs, c.put_ids.auto.tracker ∙ pre.1.words); known_le_longest = (omega (arith, r.0, e), r.1) }
+append-requires c =
+    let s = c.args.snapshot.now in
+    let known = c.number-known.ensures in
+    let longest = c.length_after-longest in
+    let r = reach s.n s.plants.now s.logs.now c.args.tracker.now s.fits c.requires.0 c.requires.1 longest.result
+    (longest.ensures ∙ ap (max_below s.n (λ r. get_or s.plants.now (commit_at r) 0)) known) in
+    (omega (arith, r.0, known), r.1, c.put_ids.auto.tracker ∙ c.requires.0.words)
 
 pub returns : goal.returns
-returns c = let pre = c.requires in
-    let the_number = c.number-known in
-    let the-length-after = c.length_after-longest in
-    let the-put-ids = c.put_ids in
-    let the-append = c.append in
-    let a = c.args in
-    let e = the_number.ensures in
-    all_written a.n a.plants.now a.logs.now a.tracker.now pre.0 pre.1 pre.2 the-length-after.result
-    (the-length-after.ensures ∙ ap (max_below a.n (λ r. get_or a.plants.now (commit_at r) 0)) e)
-    the_number.result _ _ _ e the-put-ids.ensures (the-append.ensures a.tracker.now) c.put_commits.ensures
+returns c =
+    let s = c.args.snapshot.now in
+    let t = c.args.tracker.now in
+    let known = c.number-known in
+    let longest = c.length_after-longest in
+    all_written s.n s.plants.now s.logs.now t s.fits c.requires.0 c.requires.1 longest.result
+    (longest.ensures ∙ ap (max_below s.n (λ r. get_or s.plants.now (commit_at r) 0)) known.ensures)
+    known.result _ _ _ known.ensures c.put_ids.ensures (c.append.ensures t) c.put_commits.ensures

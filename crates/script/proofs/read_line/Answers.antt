@@ -1,9 +1,9 @@
--- `script::read_line` meets its contract, case by case of what the line says: of a blank line nothing is written. Assumes nothing.
-use Rattle.std.proofs.Common.{sym, ◌∙◌}
+-- `script::read_line` meets its contract: of a blank line nothing is written. Assumes nothing.
+use Rattle.std.proofs.Common.{arith}
+use Rattle.std.proofs.lemmas.Grind.{common_steps}
 use Rattle.script.specs.Lines.{line_says}
-use Rattle.script.proofs.Reading.{read_blank}
+use Rattle.script.proofs.Reading.{nothing_laid}
 use Rattle.script.proofs.read_line.Goals as goal
 
-pub returns-in-Blank-clause-words : goal.returns-in-Blank-clause-words
-returns-in-Blank-clause-words c = let a = c.args in
-    (read_blank a.room a.found a.held.now (line_says a.line.now) (sym c.parse_line.ensures ∙ c.in-Blank.is)).1
+pub returns-in_default-clause-words : goal.returns-in_default-clause-words
+returns-in_default-clause-words c = λ ok. nothing_laid c.args.found c.args.held.now (line_says c.args.line.now) (grind (arith, common_steps))

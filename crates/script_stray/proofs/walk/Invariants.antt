@@ -1,7 +1,4 @@
-use mathlib.Core.List.{List}
-use mathlib.Core.Path.{◌≡◌}
-use Prim.Native.Nat.{ℕ, ◌+◌, ◌-◌, ◌≤◌}
-use lib.ListN.{length, drop}
+use Rattle.std.proofs.Common.{◌≡◌, List, ℕ, ◌+◌, ◌≤◌, drop}
 use Rattle.script_stray.specs.Stray.{stray_line}
 use Rattle.script_stray.specs.Walk.{stray_from}
 use Rattle.script_stray.specs.declared.Spot.{Spot}
@@ -11,8 +8,5 @@ use Rattle.script_stray.proofs.walk.Given as goal
 abbrev pub Left : List ℕ → ℕ → Spot → ℕ → Type 0
 Left text n spot i = stray_line text ≡ stray_from n spot (drop i text)
 
-abbrev pub invariant-loop-i : goal.invariant-loop-i
-invariant-loop-i l = (l.i ≤ length l.text) × (l.number ≤ l.i + 1) × Left l.text l.number l.spot l.i
-
-abbrev pub decreases-loop-i : goal.decreases-loop-i
-decreases-loop-i l = length l.text - l.i
+abbrev pub invariant-loop-byte : goal.invariant-loop-byte
+invariant-loop-byte l = (1 ≤ l.number) × (l.number ≤ l.byte-index + 1) × Left l.text l.number l.spot l.byte-index

@@ -1,8 +1,0 @@
--- `plants::Plants::healed` meets its contract. Assumes nothing.
-use mathlib.Core.Path.{refl}
-use Rattle.plants.specs.Faults.{after_fault}
-use Rattle.plants.proofs.Plants.healed.Goals as goal
-
-pub returns : goal.returns
-unfolding after_fault
-returns c = refl

@@ -1,9 +1,0 @@
--- `samples_network::rewind` is safe and ends. Assumes nothing.
-use native.Mathlib.Omega.{arith}
-use borrow.Author.Rules.{rules}
-use mathlib.Core.Path.{sym}
-use lib.Seq.{length-take-le}
-use Rattle.samples_network.proofs.rewind.Goals as goal
-
-pub slice_bounds-bellmantle_journal_rewind-end-2 : goal.slice_bounds-bellmantle_journal_rewind-end-2
-slice_bounds-bellmantle_journal_rewind-end-2 c = sym (length-take-le _ _ (omega arith))
