@@ -32,6 +32,7 @@ ghost use Rattle.std.specs.Prelude.{
   IfSome,
   OnSome,
 };
+ghost use Rattle.samples_list.specs.Counts.{one_more};
 ghost use Rattle.samples_list.specs.declared.Change.TheVariants.{Fill, Move};
 
 // ---- The numbers
@@ -295,6 +296,9 @@ impl<const N: usize> Row<N> {
         ensures filled { (word : ℕ) → edit.change ≡ Fill word → OnSome result (self.new.expected
             ≡ take edit.at self.old.expected
             ++ (replicate edit.count word ++ drop (edit.at + edit.count) self.old.expected)) }
+        ensures moved { (from : ℕ) → edit.change ≡ Move from → OnSome result (self.new.expected
+            ≡ take edit.at self.old.expected
+            ++ (take edit.count (drop from self.old.expected) ++ drop (edit.at + edit.count) self.old.expected)) }
         ensures kept { edit.lent ≡ false → self.new.lent ≡ self.old.lent }
         ensures lent { edit.lent ≡ true → OnSome result (self.new.lent
             ≡ take edit.at self.old.lent
@@ -363,22 +367,23 @@ impl Tally {
         ensures times { self.new.times ≡ (self.old.times + 1) % 2 ^ 64 }
         ensures same { met.same ≡ true → self.new.differing ≡ self.old.differing }
         ensures differing { met.same ≡ false → self.new.differing ≡ (self.old.differing + 1) % 2 ^ 64 }
-        ensures accepted { met.refusal ≡ 0 → self.new.refusals ≡ self.old.refusals }
-        ensures refused { 0 < met.refusal → self.new.outcomes ≡ self.old.outcomes }
+        ensures accepted { met.refusal ≡ 0 → (self.new.refusals ≡ self.old.refusals) × (self.new.outcomes ≡ one_more self.old.outcomes met.outcome) }
+        ensures refused { 0 < met.refusal → (self.new.outcomes ≡ self.old.outcomes) × (self.new.refusals ≡ one_more self.old.refusals met.refusal) }
     {
         self.times = self.times.wrapping_add(1);
         self.differing = self.differing.wrapping_add(u64::from(!met.same));
         if met.refusal == 0 {
-            one_more(&mut self.outcomes, met.outcome);
+            count_one(&mut self.outcomes, met.outcome);
         } else {
-            one_more(&mut self.refusals, met.refusal);
+            count_one(&mut self.refusals, met.refusal);
         }
     }
 }
 
 // One more at a place, or at the last one for all behind it.
-fn one_more(counts: &mut [u64], place: u64)
+fn count_one(counts: &mut [u64], place: u64)
     requires { 0 < length counts.old }
+    ensures { counts.new ≡ one_more counts.old place }
 {
     let at = (place as usize).min(counts.len() - 1);
     counts[at] = counts[at].wrapping_add(1);
