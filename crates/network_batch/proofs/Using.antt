@@ -2,7 +2,7 @@
 use Prim.Native.Nat.{ℕ, ◌+◌, ◌≤◌}
 use mathlib.Core.Path.{◌≡◌, refl}
 use mathlib.Core.Bool.{Bool, true, false, cond, ◌&&◌}
-use mathlib.Core.List.{List}
+use mathlib.Core.List.{List, [], ◌∷◌}
 use native.Mathlib.Omega.{arith}
 use borrow.Author.Tests.{ltb-true, leb-true}
 use lib.Dec.{leb, ltb}
@@ -12,12 +12,16 @@ use Rattle.chance.specs.Probability.{is_one, is_zero, threshold_of}
 use Rattle.std.specs.Prelude.{Option, Some, None}
 use Rattle.chance.specs.Draw.{drawn, by_word, gen_bool, gen_bool_in_send}
 use Rattle.chance.specs.declared.Draw.{Draw}
-use Rattle.nights.specs.Net.{Options, lose, once, twice}
-use Rattle.nights.specs.Draws.{Decided, refusing, is_faulted, extras_for, due_at, is_tick, is_late, alone, both, after_replay, after_loss, decided}
-use Rattle.nights.specs.Tests.{refusal}
+use Rattle.nights.specs.Net.{Options, lose, once, twice, Letter, send}
+use Rattle.nights.specs.Draws.{Decided, refusing, is_faulted, extras_for, due_at, is_tick, is_late, alone, both, after_replay, after_loss, decided, fate_of}
+use Rattle.nights.specs.Tests.{refused, Test, verdict, refusal, send_tests, tests}
 use Rattle.network_options.specs.declared.Refusal.{Refusal}
 use Rattle.network_options.specs.declared.Refusal.TheVariants.{BadLoss, BadReplay, MinOverMean, IllFormed, BadKindOrSort, SentLimit, ShortDraws, ShortExtras, LateTick, Full, ShortOutput, BadJournal, NoJournalRoom, TooFarBack}
 use Rattle.network_options.specs.Answers.{refusal_number}
+use Rattle.network_options.specs.Options.{plain_options}
+use Rattle.network_form.specs.declared.Head.{Head}
+use Rattle.network_form.specs.Forms.{plain_in}
+use Rattle.network_form.specs.Calls.{form_test, answer_in}
 
 -- ---- draws
 
@@ -100,6 +104,25 @@ module _ (o : Options) (now : ℕ) (draws extras : List ℕ) where
       go false = record { draws_within = omega arith; extras_within = omega arith; number_small = omega arith }
 
 -- ---- the numbers of refusals
+
+abbrev Under : List Test → Type 0
+Under [] = Unit {0}
+Under (t ∷ ts) = (t.number ≤ 33) × Under ts
+
+under : (ts : List Test) → Under ts → (k : ℕ) → verdict ts ≡ refused k → k ≤ 33
+unfolding verdict
+under [] u k e = let z : ◌≡◌ {A = ℕ} 0 1 = cc in absurd (omega arith)
+under (t ∷ ts) u k e = go t.passes (λ q. under ts u.1 k q) e
+  where
+    go : (b : Bool) → (verdict ts ≡ refused k → k ≤ 33) → cond b (verdict ts) (refused t.number) ≡ refused k → k ≤ 33
+    go true more q = more q
+    go false more q = let z : t.number ≡ k = cc in omega (arith, u.0)
+
+pub send_number : (m : Letter) (draws extras : List ℕ) (h : Head) (w : List ℕ) (k : ℕ) → answer_in (send m draws extras) h w ≡ refused k → k ≤ 33
+unfolding answer_in tests
+send_number m draws extras h w k e =
+    under (form_test h w ∷ send_tests m (fate_of (plain_options h.options) m.now m.kind draws extras) (plain_in h w) [])
+    (omega arith, (omega arith, (omega arith, ((modest (plain_options h.options) m.now draws extras m.kind).number_small, (omega arith, tt))))) k e
 
 pub number_under : (r : Refusal) → refusal_number r ≤ 33
 number_under BadLoss = omega arith
