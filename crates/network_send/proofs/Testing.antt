@@ -60,6 +60,12 @@ module _ (h : Head) (w : List ℕ) (m : Letter) (draws extras : List ℕ) where
           call_well h w (send m draws extras) f
           ∙ rw (le-leb m.kind last_kind k, le-leb m.sort last_sort o, le-ltb h.sent sent_limit q)
 
+      pub limit_head : sent_limit ≤ h.sent → h ≡ head_after (send m draws extras) h w
+      limit_head q = (unsent 25 (limit_met q)).0
+
+      pub limit_records : sent_limit ≤ h.sent → w ≡ records_after (send m draws extras) h w
+      limit_records q = (unsent 25 (limit_met q)).1.0
+
       module _ (q : h.sent < sent_limit) where
         pub fate_refuses : (n : ℕ) → fate_here ≡ refuse n → answer_in (send m draws extras) h w ≡ refused n
         unfolding tests verdict
