@@ -5,17 +5,24 @@ use mathlib.Core.Path.{◌≡◌, refl, sym, ap, ◌∙◌}
 use mathlib.Core.Bool.{Bool, true, false}
 use mathlib.Core.List.{List}
 use native.Mathlib.Omega.{arith}
+use Rattle.std.specs.Prelude.{Some}
 use Rattle.nights.specs.Draws.{fate_of}
 use Rattle.nights.specs.Tests.{Answer, done, refused, if_done}
 use Rattle.nights.specs.Journal.{Call, State, Step, step}
 use Rattle.nights.proofs.Steps.{refused_stays, step_keeps}
 use Rattle.network.specs.declared.Network.{Network}
-use Rattle.network.specs.Forms.{struct_of, is_formed}
+use Rattle.network_form.specs.declared.Head.{Head}
+use Rattle.network.specs.Forms.{network_of, struct_of, is_formed}
 use Rattle.network.proofs.Structs.{plain_formed, struct_formed}
 use Rattle.journal_calls.specs.Calls.{state_of, step_of, answer_of, words_after, network_after}
-use Rattle.network_layout.specs.Layout.{head_fits, head_words}
+use Rattle.network_layout.specs.Layout.{head_fits, head_words, loaded}
+use Rattle.network_layout.proofs.Heads.{head_read}
 use Rattle.journal_words.specs.Calls.{network_in, journal_answer, journal_head, journal_records, journal_words}
 use Rattle.journal_words.proofs.Told.{Kept, Done, read_kept, read_finished}
+
+-- what was read is the network of the words
+pub read_is : (h r : List ℕ) (x : Head) → Some x ≡ loaded h → (t : Network) → t ≡ network_of x r → t ≡ network_in h r
+read_is h r x e t q = q ∙ ap (λ (y : Head). network_of y r) (head_read h x e).1
 
 module _ (c : Call) (s : Network) (j : List ℕ) where
   well : is_formed s ≡ true → step_of c s j ≡ step fate_of (state_of s j) c
