@@ -1,13 +1,14 @@
 -- Those in front that are due are the first of the words: they are written out, the others move down, and zeros follow. Assumes nothing.
 use Prim.Native.Nat.{ℕ, ◌+◌, ◌-◌, ◌*◌, ◌≤◌, ◌<◌}
 use mathlib.Core.Path.{◌≡◌, refl, ap, ◌∙◌}
-use mathlib.Core.List.{List, [], ◌∷◌, ◌++◌}
+use mathlib.Core.List.{List, [], ◌∷◌, ◌++◌, append_assoc}
 use mathlib.Core.Bool.{Bool, true, false, cond}
+use native.Mathlib.Numerals.{add-one}
 use native.Mathlib.Omega.{arith}
 use borrow.Author.Tests.{le-leb, lt-leb}
 use lib.Dec.{leb}
-use lib.ListN.{length, take, drop, get_or, replicate, length-take, length-drop}
-use lib.Seq.{length-take-le, take-take, take_at, drop-append-add, drop-drop}
+use lib.ListN.{length, take, drop, get_or, set, replicate, length-take, length-drop}
+use lib.Seq.{length-take-le, take-suc, take-take, take_at, drop-append-add, drop-cons, drop-drop, set_at}
 use Rattle.nights.specs.Record.{Record, record_words, recs, record_size}
 use Rattle.network_queue.specs.Places.{front, back, due_count, left_words, gone_words}
 use Rattle.network_queue.proofs.Inserting.{length-recs, record_words-recs, record_words-take, record_words-drop, peel}
@@ -15,6 +16,11 @@ use Rattle.network_queue.proofs.Inserting.{length-recs, record_words-recs, recor
 -- a loop that writes the list t over l from the front
 abbrev pub filled : List ℕ → List ℕ → ℕ → List ℕ
 filled t l m = take m t ++ drop m l
+
+pub fill_step : (t l r : List ℕ) (m v : ℕ) → m < length t → m < length l → v ≡ get_or t m 0 → r ≡ filled t l m → set r m v ≡ filled t l (m + 1)
+fill_step t l r m v h k e f =
+    let q : length (take m t) ≡ m = length-take-le m t (omega arith) in
+    rw (f, e, add-one m, drop-cons l m 0 k, take-suc t m 0 h, append_assoc) (set_at (take m t) _ _ _ m q)
 
 -- the part that `down` moves
 pub length_part : (l : List ℕ) (k n : ℕ) → k ≤ n → n ≤ length l → length (drop k (take n l)) ≡ n - k
