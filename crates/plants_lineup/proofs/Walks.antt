@@ -8,8 +8,7 @@ use native.Mathlib.Nat.{add-zero, sub-zero, zero-sub}
 use native.Mathlib.Numerals.{add-one}
 use borrow.Author.Tests.{leb-true}
 use lib.Dec.{leb, eqb}
-use Rattle.std.specs.List.{list_all, count_by, range_with_len, swap}
-use Rattle.std.proofs.lemmas.List.Edits.{swap_is}
+use Rattle.std.specs.List.{list_all, count_by, range_with_len}
 use Rattle.std.proofs.lemmas.List.Sums.{sum_by-cons}
 use lib.ListN.{length, take, drop, get_or, set, replicate, length-append}
 use lib.Seq.{drop-cons, drop-drop, get_or-drop, set_at, length-take-le, take_all}
@@ -78,7 +77,7 @@ within_by_all picks last (suc k) at e =
 pub shuffle_step : (picks l : List ℕ) (last at : ℕ) → at < last → last < length l → picks_within (last - at) (drop at picks) ≡ true
     → (get_or picks at 0 ≤ last - at)
     × ((picks_within (last - (at + 1)) (drop (at + 1) picks) ≡ true)
-    × (shuffled_from (last - at) (drop at picks) l ≡ shuffled_from (last - (at + 1)) (drop (at + 1) picks) (swap l (last - at) (get_or picks at 0))))
+    × (shuffled_from (last - at) (drop at picks) l ≡ shuffled_from (last - (at + 1)) (drop (at + 1) picks) (swapped l (last - at) (get_or picks at 0))))
 shuffle_step picks l last at h k e =
     let i = last - at in
     let less : i - 1 ≡ last - (at + 1) = omega arith in
@@ -86,8 +85,7 @@ shuffle_step picks l last at h k e =
       w.0,
       (
         ap (λ (n : ℕ). picks_within n (drop (at + 1) picks)) (sym less) ∙ w.1,
-        one_swap picks i at (omega arith) l
-            ∙ (λ t. shuffled_from (less t) (drop (at + 1) picks) (swap_is l i (get_or picks at 0) 0 (omega arith) (omega (arith, w.0)) t)),
+        one_swap picks i at (omega arith) l ∙ ap (λ (n : ℕ). shuffled_from n (drop (at + 1) picks) (swapped l i (get_or picks at 0))) less,
       ),
     )
 

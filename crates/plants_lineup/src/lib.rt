@@ -45,7 +45,12 @@ fn shuffle(list: &mut [u64], picks: &[u64])
 {
     let last = list.len() - 1;
     for at in 0..last {
-        list.swap(last - at, picks[at] as usize);
+        let i = last - at;
+        let j = picks[at] as usize;
+        let x = list[i];
+        let y = list[j];
+        list[i] = y;
+        list[j] = x;
     }
 }
 
