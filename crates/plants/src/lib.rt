@@ -93,6 +93,17 @@ fn nonce_of(fault: Fault, draws: &[u64]) -> Result<Option<u64>, Refusal>
     Ok(Some(*nonce))
 }
 
+// The place of a plant, if it is one of n.
+fn place(n: usize, id: u64) -> Result<usize, Refusal>
+    ensures { result ≡ cond (ltb id n) (Ok id) (Err Refusal.UnknownPlant) }
+{
+    if id < n as u64 {
+        Ok(id as usize)
+    } else {
+        Err(Refusal::UnknownPlant)
+    }
+}
+
 impl Plants {
     // Fresh plants: all n up, none partitioned, nothing counted.
     #[tactic(auto, using(basis::proofs::Laws::between), unfolding(crate::specs::State::new_plants))]
@@ -287,27 +298,16 @@ impl Plants {
         }
     }
 
-    // The place of a plant, if it is one of them.
-    fn place(self, id: u64) -> Result<usize, Refusal>
-        ensures { result ≡ cond (ltb id self.n) (Ok id) (Err Refusal.UnknownPlant) }
-    {
-        if id < self.n as u64 {
-            Ok(id as usize)
-        } else {
-            Err(Refusal::UnknownPlant)
-        }
-    }
-
     // What becomes of a message that is due at plant `to`.
     #[tactic(auto, using(crate::proofs::Testing::bounds), unfolding(crate::specs::Verdicts::verdict_given, crate::specs::Verdicts::verdict_tested))]
     pub fn verdict(self, from: Origin, to: u64) -> Result<Verdict, Refusal>
         ensures { result ≡ verdict_given self from to }
     {
         self.test()?;
-        let receiver = self.place(to)?;
+        let receiver = place(self.n, to)?;
         let sender_cut = match from {
             Origin::Replica(id) => {
-                let sender = self.place(id)?;
+                let sender = place(self.n, id)?;
                 self.partitioned[sender]
             }
             Origin::Client(_) => false,
