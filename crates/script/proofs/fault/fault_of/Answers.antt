@@ -1,74 +1,67 @@
 -- `script::fault::fault_of` meets its contract: the names are tried in the definition's order. Assumes nothing.
-use Rattle.std.proofs.Common.{◌≡◌, rules}
-use Rattle.script.specs.Faults.{crash, restart, reboot, partition, heal, heal_all, named_by}
-use Rattle.script.proofs.Same.{same_is, same_not}
+use mathlib.Core.Bool.{true, false}
+use mathlib.Core.Path.{◌≡◌, sym, ◌∙◌}
+use Rattle.script.specs.Faults.{same, crash, restart, reboot, partition, heal, heal_all, named_by}
 use Rattle.script.proofs.fault.fault_of.Goals as goal
 
-pub returns-then-eq : goal.returns-then-eq
+pub returns-then-is : goal.returns-then-is
 unfolding named_by
-returns-then-eq c =
-    let w = c.args.word.now in
-    let e : w ≡ crash = search rules in
-    rw (same_is w crash e)
+returns-then-is c = let w = c.args.word.now in
+    let e1 : same w crash ≡ true = sym c.is.ensures ∙ c.if-is.true in
+    rw (e1)
 
-pub returns-then-eq-2 : goal.returns-then-eq-2
+pub returns-then-is-2 : goal.returns-then-is-2
 unfolding named_by
-returns-then-eq-2 c =
-    let w = c.args.word.now in
-    let n1 : w ≡ crash → ⊥ = search rules in
-    let e : w ≡ restart = search rules in
-    rw (same_not w crash n1, same_is w restart e)
+returns-then-is-2 c = let w = c.args.word.now in
+    let e1 : same w crash ≡ false = sym c.is.ensures ∙ c.if-is.false in
+    let e2 : same w restart ≡ true = sym c.is-2.ensures ∙ c.if-is-2.true in
+    rw (e1, e2)
 
-pub returns-then-eq-3 : goal.returns-then-eq-3
+pub returns-then-is-3 : goal.returns-then-is-3
 unfolding named_by
-returns-then-eq-3 c =
-    let w = c.args.word.now in
-    let n1 : w ≡ crash → ⊥ = search rules in
-    let n2 : w ≡ restart → ⊥ = search rules in
-    let e : w ≡ reboot = search rules in
-    rw (same_not w crash n1, same_not w restart n2, same_is w reboot e)
+returns-then-is-3 c = let w = c.args.word.now in
+    let e1 : same w crash ≡ false = sym c.is.ensures ∙ c.if-is.false in
+    let e2 : same w restart ≡ false = sym c.is-2.ensures ∙ c.if-is-2.false in
+    let e3 : same w reboot ≡ true = sym c.is-3.ensures ∙ c.if-is-3.true in
+    rw (e1, e2, e3)
 
-pub returns-then-eq-4 : goal.returns-then-eq-4
+pub returns-then-is-4 : goal.returns-then-is-4
 unfolding named_by
-returns-then-eq-4 c =
-    let w = c.args.word.now in
-    let n1 : w ≡ crash → ⊥ = search rules in
-    let n2 : w ≡ restart → ⊥ = search rules in
-    let n3 : w ≡ reboot → ⊥ = search rules in
-    let e : w ≡ partition = search rules in
-    rw (same_not w crash n1, same_not w restart n2, same_not w reboot n3, same_is w partition e)
+returns-then-is-4 c = let w = c.args.word.now in
+    let e1 : same w crash ≡ false = sym c.is.ensures ∙ c.if-is.false in
+    let e2 : same w restart ≡ false = sym c.is-2.ensures ∙ c.if-is-2.false in
+    let e3 : same w reboot ≡ false = sym c.is-3.ensures ∙ c.if-is-3.false in
+    let e4 : same w partition ≡ true = sym c.is-4.ensures ∙ c.if-is-4.true in
+    rw (e1, e2, e3, e4)
 
-pub returns-then-eq-5 : goal.returns-then-eq-5
+pub returns-then-is-5 : goal.returns-then-is-5
 unfolding named_by
-returns-then-eq-5 c =
-    let w = c.args.word.now in
-    let n1 : w ≡ crash → ⊥ = search rules in
-    let n2 : w ≡ restart → ⊥ = search rules in
-    let n3 : w ≡ reboot → ⊥ = search rules in
-    let n4 : w ≡ partition → ⊥ = search rules in
-    let e : w ≡ heal = search rules in
-    rw (same_not w crash n1, same_not w restart n2, same_not w reboot n3, same_not w partition n4, same_is w heal e)
+returns-then-is-5 c = let w = c.args.word.now in
+    let e1 : same w crash ≡ false = sym c.is.ensures ∙ c.if-is.false in
+    let e2 : same w restart ≡ false = sym c.is-2.ensures ∙ c.if-is-2.false in
+    let e3 : same w reboot ≡ false = sym c.is-3.ensures ∙ c.if-is-3.false in
+    let e4 : same w partition ≡ false = sym c.is-4.ensures ∙ c.if-is-4.false in
+    let e5 : same w heal ≡ true = sym c.is-5.ensures ∙ c.if-is-5.true in
+    rw (e1, e2, e3, e4, e5)
 
-pub returns-then-eq-6 : goal.returns-then-eq-6
+pub returns-then-is-6 : goal.returns-then-is-6
 unfolding named_by
-returns-then-eq-6 c =
-    let w = c.args.word.now in
-    let n1 : w ≡ crash → ⊥ = search rules in
-    let n2 : w ≡ restart → ⊥ = search rules in
-    let n3 : w ≡ reboot → ⊥ = search rules in
-    let n4 : w ≡ partition → ⊥ = search rules in
-    let n5 : w ≡ heal → ⊥ = search rules in
-    let e : w ≡ heal_all = search rules in
-    rw (same_not w crash n1, same_not w restart n2, same_not w reboot n3, same_not w partition n4, same_not w heal n5, same_is w heal_all e)
+returns-then-is-6 c = let w = c.args.word.now in
+    let e1 : same w crash ≡ false = sym c.is.ensures ∙ c.if-is.false in
+    let e2 : same w restart ≡ false = sym c.is-2.ensures ∙ c.if-is-2.false in
+    let e3 : same w reboot ≡ false = sym c.is-3.ensures ∙ c.if-is-3.false in
+    let e4 : same w partition ≡ false = sym c.is-4.ensures ∙ c.if-is-4.false in
+    let e5 : same w heal ≡ false = sym c.is-5.ensures ∙ c.if-is-5.false in
+    let e6 : same w heal_all ≡ true = sym c.is-6.ensures ∙ c.if-is-6.true in
+    rw (e1, e2, e3, e4, e5, e6)
 
 pub returns : goal.returns
 unfolding named_by
-returns c =
-    let w = c.args.word.now in
-    let n1 : w ≡ crash → ⊥ = search rules in
-    let n2 : w ≡ restart → ⊥ = search rules in
-    let n3 : w ≡ reboot → ⊥ = search rules in
-    let n4 : w ≡ partition → ⊥ = search rules in
-    let n5 : w ≡ heal → ⊥ = search rules in
-    let n6 : w ≡ heal_all → ⊥ = search rules in
-    rw (same_not w crash n1, same_not w restart n2, same_not w reboot n3, same_not w partition n4, same_not w heal n5, same_not w heal_all n6)
+returns c = let w = c.args.word.now in
+    let e1 : same w crash ≡ false = sym c.is.ensures ∙ c.if-is.false in
+    let e2 : same w restart ≡ false = sym c.is-2.ensures ∙ c.if-is-2.false in
+    let e3 : same w reboot ≡ false = sym c.is-3.ensures ∙ c.if-is-3.false in
+    let e4 : same w partition ≡ false = sym c.is-4.ensures ∙ c.if-is-4.false in
+    let e5 : same w heal ≡ false = sym c.is-5.ensures ∙ c.if-is-5.false in
+    let e6 : same w heal_all ≡ false = sym c.is-6.ensures ∙ c.if-is-6.false in
+    rw (e1, e2, e3, e4, e5, e6)
