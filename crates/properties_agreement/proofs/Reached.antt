@@ -99,3 +99,7 @@ module _ (n : ℕ) (p l t : List ℕ) (s : Snapshot n p l) (f : Forward n p t) w
       (entry_at (committer (cluster_in n p l t) i) i)
   unfolding canonical_entry
   canonical_new i r h k g = rw (canonical_long n p l t, le-ltb i (get_or t length_at 0) g) (committed_entry i r h k)
+
+  -- a plant's own entry in words, of an index that it has committed
+  pub own_entry : (i r : ℕ) → r < n → i < get_or p (commit_at r) 0 → entry (cluster_in n p l t) r i ≡ entry_in l (entry_at r i)
+  own_entry i r h k = entry_held n p l t r h i (omega (arith, f.within r h))

@@ -11,11 +11,12 @@ ghost use Rattle.properties_agreement.specs.Agreement.{committer, canonical_entr
 use properties_snapshots::Advance;
 
 // Property 3: the entry equals the canonical one.
+#[tactic(auto, using(crate::proofs::Reached::own_entry), unfolding(crate::specs::Agreement::agrees))]
 pub fn agrees(advance: &Advance<'_>, r: usize, i: usize) -> bool
     requires { (r < advance.now.snapshot.n) × (i < get_or advance.now.snapshot.plants.now (commit_at r) 0) }
     ensures { result ≡ agrees (cluster_at advance.now) r i }
 {
-    canonical_entry(advance, i) == advance.snapshot.entry(r, i)
+    properties_snapshots::same_entry(canonical_entry(advance, i), advance.snapshot.entry(r, i))
 }
 
 // The canonical entry at an index that one of the plants has committed, in its words: the tracker's, or that of the first plant that

@@ -54,5 +54,7 @@ fn holds_copy(snapshot: &Snapshot<'_>, i: usize, entry: &[u64], q: usize) -> boo
     requires { (i < log_entries) × (q < snapshot.now.n) }
     ensures { (e : LogEntry) (t : List ℕ) → entry.now ≡ words_of_entry e → result ≡ holds_copy (cluster_of snapshot.now t) i e q }
 {
-    snapshot.recovering_of(q) != 1 && i < snapshot.size_of(q) && snapshot.entry(q, i) == entry
+    snapshot.recovering_of(q) != 1
+        && i < snapshot.size_of(q)
+        && properties_snapshots::same_entry(snapshot.entry(q, i), entry)
 }

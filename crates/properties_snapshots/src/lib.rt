@@ -4,7 +4,7 @@
 
 ghost use Rattle.std.specs.Prelude.{◌≡◌, ◌+◌, ◌*◌, ◌≤◌, ◌<◌, length, get_or};
 ghost use Rattle.basis.specs.Basis.{most};
-ghost use Rattle.properties_snapshots.specs.Cluster.{words_of_entry, entry_in};
+ghost use Rattle.properties_snapshots.specs.Cluster.{LogEntry, same_entry, words_of_entry, entry_in};
 ghost use Rattle.properties_snapshots.specs.Fits.{plants_fit, snapshot_fits, lasts_fit, tracker_fits};
 ghost use Rattle.properties_snapshots.specs.Layout.{entry_words, id_at, log_entries, plant_words, recovering_at, commit_at, op_at, size_at, entry_at};
 ghost use Rattle.properties_snapshots.specs.Layout.{last_at, canonical_at, seen_at, tracker_words};
@@ -128,6 +128,14 @@ pub fn entry_of(words: &[u64], at: usize) -> &[u64]
     ensures { result.now ≡ words_of_entry (entry_in words.now at) }
 {
     &words[at..at + ENTRY]
+}
+
+// Whether two entries, each in its words, are equal.
+#[tactic(auto, using(crate::proofs::Same::words_same))]
+pub fn same_entry(one: &[u64], other: &[u64]) -> bool
+    ensures { (a b : LogEntry) → one.now ≡ words_of_entry a → other.now ≡ words_of_entry b → result ≡ same_entry a b }
+{
+    one == other
 }
 
 // The op id of plant r's entry at index i, and its last commit in the tracker.

@@ -74,6 +74,6 @@ impl<'a> Snapshot<'a> {
         requires { (q < self.now.n) × (r < self.now.n) × (i < log_entries) }
         ensures { result ≡ same_entry (entry_in self.now.logs.now (entry_at q i)) (entry_in self.now.logs.now (entry_at r i)) }
     {
-        self.entry(q, i) == self.entry(r, i)
+        crate::same_entry(self.entry(q, i), self.entry(r, i))
     }
 }
