@@ -2,4 +2,5 @@
 pub mod Core
 pub mod Rising
 pub mod Values
+pub mod Passing
 pub mod Exactly

@@ -41,6 +41,7 @@ fn rises_below(n: usize, core: &[u64]) -> bool
 }
 
 // Property 7: core plant by core plant, each against the first.
+#[tactic(auto, using(crate::proofs::Passing::from_the_first, crate::proofs::Passing::passes_one, crate::proofs::Passing::stops_there, crate::proofs::Passing::none_left, std::proofs::lemmas::List::take_all))]
 pub fn convergence(snapshot: &Snapshot<'_>, values: &[i64], core: &[u64]) -> Result<(), Break>
     requires lent { (length values.now ≡ snapshot.now.n) × (0 < length core.now) }
     requires by_index { (k : ℕ) → k < length core.now → get_or core.now k 0 < snapshot.now.n }
