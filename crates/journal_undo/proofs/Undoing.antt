@@ -7,7 +7,7 @@ use native.Mathlib.Omega.{arith}
 use borrow.Author.Tests.{leb-true, leb-false}
 use lib.Dec.{leb, eqb}
 use lib.ListN.{length, get_or}
-use Rattle.std.specs.Prelude.{Option, Some, None}
+use Rattle.std.specs.Prelude.{Option, Some, None, IfSome}
 use Rattle.nights.specs.Record.{recs}
 use Rattle.nights.specs.Net.{capacity, Plain, well_formed}
 use Rattle.nights.specs.Journal.{Undone as Told, misfit, undone, unsend, untake, unchoose, undo_as, undo_one, checked, further, undo_all}
@@ -109,6 +109,10 @@ module _ (k : ℕ) (j : List ℕ) (e : ℕ) (came : Undone) (v : List ℕ) (me :
               ∙ (ap (λ (i : ℕ). undo_all i (plain_in me.head w) j me.start) one_less
               ∙ all_on more (plain_in me.head w) j me.start (plain_in x.head z) x.start d);
         }
+
+    -- the same from what the contract says of an answer
+    pub goes_on_with : (x : Undone) → u ≡ Some x → IfSome u (λ y. formed_in y.head z ≡ true) → Undoing k j e came v x z more
+    goes_on_with x n f = goes_on x n (rw n at f)
 
   pub ends : left ≤ 0 → undone_in (Some me) w ≡ undo_all k (plain_in came.head v) j e
   unfolding undone_in undo_all
