@@ -1,5 +1,5 @@
 -- A send's answer test by test, and what a refused one tells and hands back. Assumes nothing.
-use mathlib.Core.Path.{◌≡◌, refl, ◌∙◌}
+use mathlib.Core.Path.{◌≡◌, refl, ap, ◌∙◌}
 use mathlib.Core.List.{List, [], ◌∷◌}
 use mathlib.Core.Bool.{true}
 use Prim.Native.Nat.{ℕ, ◌+◌, ◌≤◌, ◌<◌}
@@ -10,7 +10,7 @@ use lib.ListN.{length}
 use Rattle.basis.proofs.Laws.{bit_le}
 use Rattle.nights.specs.Record.{recs}
 use Rattle.nights.specs.Net.{capacity, sent_limit, last_kind, last_sort, Fate, refuse, lose, once, twice, dues, lost_by, replayed_by, delayed_by, Letter, send}
-use Rattle.nights.specs.Draws.{Decided, fate_of}
+use Rattle.nights.specs.Draws.{Decided, decided, fate_of}
 use Rattle.nights.specs.Tests.{Answer, done, refused, verdict, tests}
 use Rattle.nights.proofs.Failing.{first, second}
 use Rattle.network_queue.proofs.Inserting.{length-recs}
@@ -110,6 +110,14 @@ pub answer_of : (a : Answer) (d : Decided) → (sending a d).answer ≡ a
 unfolding sending
 answer_of done d = refl
 answer_of (refused k) d = refl
+
+-- of a send that is not refused, field by field
+pub accepted_tells : (h : Head) (w : List ℕ) (m : Letter) (draws extras : List ℕ) (d : Decided) (l r n x : ℕ)
+    → answer_in (send m draws extras) h w ≡ done → d ≡ decided (plain_options h.options) m.now m.kind draws extras
+    → l ≡ lost_by d.fate → r ≡ replayed_by d.fate → n ≡ d.draws → x ≡ d.extras
+    → record { answer = done; lost = l; replayed = r; draws = n; extras = x } ≡ send_tells m draws extras h w
+unfolding sending
+accepted_tells h w m draws extras d l r n x e t a b p q = rw (e, a, b, p, q) (ap (λ (y : Decided). sending done y) t)
 
 -- what is decided is no refusal
 pub accepts : (d : Decision) → fate_answer (decided_by d).fate ≡ done

@@ -2,17 +2,17 @@
 use mathlib.Core.Path.{ap, ◌∙◌}
 use native.Mathlib.Omega.{arith}
 use denote.Floats.{passes}
+use Rattle.std.proofs.lemmas.Grind.{common_steps}
 use Rattle.nights.specs.Net.{send, send_one, effect}
 use Rattle.nights.specs.Draws.{Decided}
-use Rattle.nights.specs.Tests.{done}
 use Rattle.network_queue.specs.Packed.{packed}
 use Rattle.network_options.proofs.OptionForms.{flag_bit}
 use Rattle.network_fates.specs.Answers.{decided_by}
 use Rattle.network_form.specs.Forms.{plain_in, head_of}
 use Rattle.network_form.proofs.Maps.{good_in, small, counts}
 use Rattle.network_form.proofs.Calling.{head_follows, records_follow}
-use Rattle.network_send.specs.Sends.{plain_letter, sending}
-use Rattle.network_send.proofs.Testing.{unsent, few}
+use Rattle.network_send.specs.Sends.{plain_letter}
+use Rattle.network_send.proofs.Testing.{unsent, few, accepted_tells}
 use Rattle.network_send.proofs.Queueing.{sent_head, sent_words, records_good, records_rise}
 use Rattle.network_send.proofs.send_on.Goals as goal
 
@@ -68,7 +68,7 @@ overflow_add-state-6 c =
     omega (arith, n.few, n.replayed, n.even, n.numbered, n.delayed, (few (decided_by c.in-Ok.decision).fate).delayed, c.delayed.ensures)
 
 pub returns : goal.returns
-unfolding effect sending
+unfolding effect
 returns c =
     let a = c.args in
     let h = a.head in
@@ -85,5 +85,5 @@ returns c =
       records = sent_words h w m d.fate c.requires c.told-w t.2 _ c.queue_copies.ensures
           ∙ (ap (λ (x : Decided). packed (send_one m x.fate (plain_in h w)).pending) t.1
           ∙ records_follow h w (send m a.draws.now a.extras.now) e);
-      answer = rw (e, c.lost.ensures, c.replayed.ensures, c.draws.ensures, c.extras.ensures) (ap (λ (x : Decided). sending done x) t.1);
+      answer = accepted_tells h w m a.draws.now a.extras.now d _ _ _ _ e t.1 c.lost.ensures c.replayed.ensures (grind (arith, common_steps)) c.extras.ensures;
     }
