@@ -42,6 +42,7 @@ pub struct Flaw {
 
 // The number that a word says: an optional single `+`, then one or more digits, at most 2^64 - 1. The first
 // byte with which no number can go on is told.
+#[tactic(auto, using(crate::proofs::Stopping::no_digit, crate::proofs::Stopping::reads_on, crate::proofs::Stopping::stops, crate::proofs::Stopping::ends))]
 pub fn read(word: &[u8]) -> Result<u64, Flaw>
     ensures { result ≡ number_of word.now }
 {
