@@ -2,4 +2,5 @@
 pub mod States
 pub mod Judging
 pub mod Each
+pub mod Telling
 pub mod Laws

@@ -187,6 +187,7 @@ fn put_verdicts(words: &[u64; WORDS], records: &[u64], told: &mut [u64])
 }
 
 // The verdicts on all records, or why they are refused.
+#[tactic(auto, using(crate::proofs::Telling::refused_answer, crate::proofs::Telling::refused_above, crate::proofs::Telling::refused_told, crate::proofs::Telling::passed_answer, crate::proofs::Telling::passed_told))]
 fn tell_all(words: &[u64; WORDS], records: &[u64], told: &mut [u64]) -> Result<(), Refused>
     ensures answer { refused_number result ≡ verdicts_answer words.now records.now told.old }
     ensures told { told.new ≡ verdicts_words words.now records.now told.old }
